@@ -1,0 +1,10 @@
+pub mod Chaining
+pub mod Firsts
+pub mod Places
+pub mod Refusing
+pub mod Saying
+pub mod Valleys
+pub mod Setting
+pub mod Growing
+pub mod Denying
+pub mod Lawful

@@ -1,0 +1,15 @@
+use mathlib.Core.Path.{_≡_, refl, sym, ap, _∙_}
+use native.Mathlib.Omega.{arith}
+use Rattle.std.specs.declared.option.Option.the-variants.{Some}
+use Rattle.table.specs.Numbers.{first-at, second-at}
+use Rattle.table.proofs.Places.{nth-pair, nth-none}
+use Rattle.table.proofs.view.Table.pair_at.Needs as need
+
+pub returns-then-place-self : need.returns-then-place-self
+returns-then-place-self c = sym (nth-none (c .args .self .now .pairs .now) (c .args .self .now .count) (c .args .place) (omega arith))
+
+pub returns : need.returns
+returns c =
+    let ps = c .args .self .now .pairs .now in
+    let k = c .args .place in
+    sym (nth-pair ps (c .args .self .now .count) k (omega arith) ∙ ap (λ w. Some (record { first = first-at ps k; second = second-at ps k; weights = w })) (sym (c .weights-at .ensures)))

@@ -1,0 +1,9 @@
+// What is promised of every table.
+ghost use Rattle.table.specs.Laws.{Laws};
+
+// The laws of tables: that this function is accepted is their proof.
+pub fn table_laws() -> u8
+    ensures { λ _. ⌜ Laws ⌝ }
+{
+    0
+}

@@ -1,0 +1,28 @@
+// Tables of weights, checked and looked up.
+mod buffer;
+mod chain;
+mod fault;
+mod laws;
+mod piece;
+mod valley;
+mod view;
+
+pub use buffer::TableBuf;
+pub use fault::AddError;
+pub use fault::AddErrorDebug;
+pub use fault::AddErrorFromAlloc;
+pub use fault::AddErrorPartialEq;
+pub use fault::Refusal;
+pub use fault::RefusalDebug;
+pub use fault::RefusalPartialEq;
+pub use laws::table_laws;
+pub use piece::Pair;
+pub use piece::PairDebug;
+pub use piece::PairPartialEq;
+pub use piece::Weights;
+pub use piece::WeightsDebug;
+pub use piece::WeightsPartialEq;
+pub use valley::valley_letters;
+pub use valley::valley_pairs;
+pub use view::Checked;
+pub use view::Table;

@@ -1,0 +1,73 @@
+// Looking up what letters weigh.
+ghost use mathlib.Core.Path.{_≡_};
+ghost use mathlib.Core.List.{[], _∷_};
+ghost use Prim.Native.Nat.{ℕ, _+_, _<_};
+ghost use lib.ListN.{length};
+ghost use Rattle.std.specs.Finite.{nth};
+ghost use Rattle.table.specs.Meaning.{pairs-of, rules-of};
+ghost use Rattle.table.specs.Numbers.{weights-at};
+ghost use Rattle.table.specs.Rules.{contraction};
+use crate::piece::Pair;
+use crate::piece::Weights;
+use crate::view::Table;
+
+impl Table<'_> {
+    // How many letters there are.
+    pub const LETTERS: usize = 256;
+    // The most pairs that a table may have.
+    pub const MAX_PAIRS: usize = 200;
+    // The most letters that a name may have.
+    pub const MAX_NAME: usize = 1000;
+
+    // What a letter weighs.
+    pub fn letter(&self, letter: u8) -> Weights
+        ensures { λ r. ⌜ r ≡ rules-of (now (self .entry)) .weighs (letter ∷ []) ⌝ }
+    {
+        weights_at(self.letters, 3 * letter as usize)
+    }
+
+    // What two letters weigh together, where they are one.
+    pub fn pair(&self, first: u8, second: u8) -> Option<Weights>
+        ensures { λ r. ⌜ r ≡ contraction (rules-of (now (self .entry))) (first ∷ (second ∷ [])) ⌝ }
+    {
+        match self.chains.locate(self.pairs, self.count, first, second) {
+            Some(k) => Some(weights_at(self.pairs, 5 * k + 2)),
+            None => None,
+        }
+    }
+
+    // How many pairs there are.
+    pub fn pair_count(&self) -> usize
+        ensures { λ r. ⌜ r ≡ length (pairs-of (now (self .entry))) ⌝ }
+    {
+        self.count
+    }
+
+    // The pair at a place, counted from 0.
+    pub fn pair_at(&self, place: usize) -> Option<Pair>
+        ensures { λ r. ⌜ r ≡ nth (pairs-of (now (self .entry))) place ⌝ }
+    {
+        if place >= self.count {
+            return None;
+        }
+        let first = self.pairs[5 * place];
+        let second = self.pairs[5 * place + 1];
+        Some(Pair {
+            first,
+            second,
+            weights: weights_at(self.pairs, 5 * place + 2),
+        })
+    }
+}
+
+// The three weights that stand from `at` on.
+fn weights_at(numbers: &[u16], at: usize) -> Weights
+    requires { ⌜ at + 2 < length (now numbers) ⌝ }
+    ensures { λ r. ⌜ r ≡ weights-at (now (numbers .entry)) at ⌝ }
+{
+    Weights {
+        primary: numbers[at],
+        secondary: numbers[at + 1],
+        tertiary: numbers[at + 2],
+    }
+}

@@ -1,0 +1,23 @@
+// Lines of text read into what they say.
+mod fault;
+mod line;
+mod numeral;
+mod part;
+mod written;
+
+pub use fault::Fault;
+pub use fault::FaultDebug;
+pub use fault::FaultDisplay;
+pub use fault::FaultPartialEq;
+pub use line::Command;
+pub use line::CommandDebug;
+pub use line::CommandPartialEq;
+pub use line::Line;
+pub use line::LineDebug;
+pub use line::LinePartialEq;
+pub use part::Cut;
+pub use part::first_part;
+pub use part::without_return;
+pub use written::CommandDisplay;
+pub use written::Letter;
+pub use written::LetterDisplay;
