@@ -11,14 +11,14 @@ all: build
 
 kit:
 	@command -v rt >/dev/null || { \
-	  echo "The Rattle kit is missing: its command 'rt' has to be on the PATH (see README.md, 'What it needs')."; exit 1; }
+	  echo "The Rattle kit is missing: its command 'rt' has to be on the PATH (README.md, 'What it needs')."; exit 1; }
 
 build: kit
-	@rt check nullahbowl >target-build.log 2>&1 || { tail -n 40 target-build.log; rm -f target-build.log; exit 1; }
-	@rm -f target-build.log
+	@echo "Proving and building $(PROGRAM); the first time takes some minutes."
+	@log=$$(mktemp); rt check nullahbowl >"$$log" 2>&1 || { tail -n 40 "$$log"; rm -f "$$log"; exit 1; }; rm -f "$$log"
 
 demo: build
-	@echo "The table of examples/table.txt:"
+	@echo "$(PROGRAM) examples/table.txt"
 	@$(PROGRAM) examples/table.txt
 
 test: kit

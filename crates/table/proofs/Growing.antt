@@ -21,7 +21,7 @@ use Rattle.table.specs.declared.piece.Weights.{Weights}
 use Rattle.table.specs.declared.fault.Refusal.the-variants.{TooMany, Foreign, Twice}
 use Rattle.table.specs.Buffer.{pair-refusal}
 use Rattle.table.specs.Numbers.{weights-at, first-at, second-at, pair-at, pairs-in, numbers-of, is-pair, place-in}
-use Rattle.table.specs.Refusals.{first-place, foreign, repeated, refusal, at-place}
+use Rattle.table.specs.Refusals.{first-place, foreign, repeated, refusal, at-place, or-else}
 use Rattle.table.specs.Rules.{Rules, nothing, same-run, joins-in, weighs-in, rules-in, with-pair, weights-of}
 use Rattle.table.proofs.Places.{place-below}
 use Rattle.table.proofs.Saying.{same-rules, same-weights}
@@ -154,9 +154,15 @@ module _ (ps : List ℕ) (n : ℕ) (p : Pair) (fives : length ps ≡ 5 * n) wher
         let j = eq-eqb (length (ps ++ numbers-of p)) (5 * (n + 1)) (omega arith) in
         rw (i, j, f, r) (go (ltb 255 (p .first) || ltb 255 (p .second)) (isSome (place-in ps n (p .first) (p .second))) (many n))
       where
+        at : (m x y : Bool) →
+            or-else (cond m (Some TooMany) None) (at-place Foreign (cond x (Some n) None) (at-place Twice (cond y (Some n) None) None))
+            ≡ cond m (Some TooMany) (cond x (Some (Foreign n)) (cond y (Some (Twice n)) None))
+        at true x y = refl
+        at false true y = refl
+        at false false true = refl
+        at false false false = refl
+
         go : (x y : Bool) → ltb 200 (n + 1) ≡ leb 200 n →
-            cond (ltb 200 (n + 1)) (Some TooMany) (at-place Foreign (cond x (Some n) None) (at-place Twice (cond y (Some n) None) None))
+            or-else (cond (ltb 200 (n + 1)) (Some TooMany) None) (at-place Foreign (cond x (Some n) None) (at-place Twice (cond y (Some n) None) None))
             ≡ cond (leb 200 n) (Some TooMany) (cond x (Some (Foreign n)) (cond y (Some (Twice n)) None))
-        go true y e = rw e
-        go false true e = rw e
-        go false false e = rw e
+        go x y e = rw e (at (leb 200 n) x y)

@@ -11,9 +11,10 @@ use Rattle.std.specs.declared.option.Option.{Option}
 use Rattle.std.specs.declared.option.Option.the-variants.{Some, None}
 use Rattle.std.specs.Options.{isSome}
 use Rattle.std.proofs.shelf.Tests.{eq-eqb, ne-eqb, lt-ltb, le-ltb, cases-eq, cases-lt, true≢false}
+use Rattle.std.proofs.shelf.Ways.{tells}
 use Rattle.table.specs.declared.fault.Refusal.{Refusal}
 use Rattle.table.specs.declared.fault.Refusal.the-variants.{Letters, Shape, TooMany, Foreign, Twice}
-use Rattle.table.specs.Refusals.{first-place, foreign, repeated, refusal, at-place}
+use Rattle.table.specs.Refusals.{first-place, foreign, repeated, refusal, at-place, shape-refusal}
 
 module _ (ls ps : List ℕ) (n : ℕ) where
   pub wrong-letters : (length ls ≡ 768 → ⊥) → refusal ls ps n ≡ Some Letters
@@ -43,6 +44,13 @@ module _ (ls ps : List ℕ) (n : ℕ) where
           pub no-refusal : first-place (repeated ps) n ≡ None → refusal ls ps n ≡ None
           unfolding refusal
           no-refusal e = rw (eq-eqb (length ls) 768 l, eq-eqb (length ps) (5 * n) s, le-ltb 200 n m, f, e)
+
+pub by-shape : (ls ps : List ℕ) (n : ℕ) (why : Refusal) → shape-refusal (length ls) (length ps) n ≡ Some why → refusal ls ps n ≡ Some why
+unfolding refusal
+by-shape ls ps n why e = rw e
+
+pub shape-sound : (l p n : ℕ) → shape-refusal l p n ≡ None → (l ≡ 768) × (p ≡ 5 * n) × (n ≤ 200)
+shape-sound l p n e = (grind (arith, tells), grind (arith, tells), grind (arith, tells))
 
 -- what numbers that are not turned away are
 pub record Sound (ls ps : List ℕ) (n : ℕ) : Type 0 where

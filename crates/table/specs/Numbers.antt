@@ -3,7 +3,7 @@ use mathlib.Core.Bool.{Bool, _&&_, _||_, cond}
 use mathlib.Core.List.{List, [], _∷_, map}
 use Prim.Native.Nat.{ℕ, zero, suc, _+_, _*_}
 use lib.Dec.{eqb, ltb}
-use lib.ListN.{getD}
+use lib.ListN.{getD, set}
 use Rattle.std.specs.Iters.{counting}
 use Rattle.std.specs.declared.option.Option.{Option}
 use Rattle.std.specs.declared.option.Option.the-variants.{Some, None}
@@ -13,6 +13,10 @@ use Rattle.table.specs.declared.piece.Weights.{Weights}
 -- the weights that stand from place i on
 abbrev pub weights-at : List ℕ → ℕ → Weights
 weights-at xs i = record { primary = getD xs i 0; secondary = getD xs (i + 1) 0; tertiary = getD xs (i + 2) 0 }
+
+-- the same numbers with these weights from place i on
+abbrev pub weights-set : List ℕ → ℕ → Weights → List ℕ
+weights-set xs i w = set (set (set xs i (w .primary)) (i + 1) (w .secondary)) (i + 2) (w .tertiary)
 
 -- the two letters of the pair at place k
 abbrev pub first-at : List ℕ → ℕ → ℕ

@@ -44,11 +44,20 @@ abbrev pub at-place : (ℕ → Refusal) → Option ℕ → Option Refusal → Op
 at-place why None next = next
 at-place why (Some k) next = Some (why k)
 
+-- the refusal by how many numbers there are
+abbrev pub shape-refusal : (letters pairs n : ℕ) → Option Refusal
+shape-refusal l p n =
+    cond (not (eqb l 768)) (Some Letters)
+    (cond (not (eqb p (5 * n))) (Some Shape)
+    (cond (ltb 200 n) (Some TooMany) None))
+
+abbrev pub or-else : Option Refusal → Option Refusal → Option Refusal
+or-else None next = next
+or-else (Some why) next = Some why
+
 -- the refusal of a table's numbers, the first in this order; None where they are a table
 unfoldable pub refusal : (letters pairs : List ℕ) → (n : ℕ) → Option Refusal
 refusal ls ps n =
-    cond (not (eqb (length ls) 768)) (Some Letters)
-    (cond (not (eqb (length ps) (5 * n))) (Some Shape)
-    (cond (ltb 200 n) (Some TooMany)
+    or-else (shape-refusal (length ls) (length ps) n)
     (at-place Foreign (first-place (foreign ps) n)
-    (at-place Twice (first-place (repeated ps) n) None))))
+    (at-place Twice (first-place (repeated ps) n) None))

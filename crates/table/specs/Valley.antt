@@ -35,8 +35,11 @@ abbrev pub level : ℕ → Weights → ℕ
 level k w = cond (eqb k 0) (w .primary) (cond (eqb k 1) (w .secondary) (w .tertiary))
 
 -- the rule at all 768 places: three for each letter
+abbrev pub valley-list : List ℕ
+valley-list = map (λ i. level (i % 3) (valley-letter (i / 3))) (counting 0 768)
+
 unfoldable pub valley-numbers : List ℕ
-valley-numbers = map (λ i. level (i % 3) (valley-letter (i / 3))) (counting 0 768)
+valley-numbers = valley-list
 
 abbrev pub valley-pair : List ℕ
 valley-pair = 99 ∷ (104 ∷ (35 ∷ (1 ∷ (1 ∷ []))))

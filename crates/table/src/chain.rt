@@ -4,6 +4,7 @@ ghost use mathlib.Core.Path.{_≡_};
 ghost use mathlib.Core.Bool.{true};
 ghost use Prim.Native.Nat.{ℕ, _+_, _*_, _<_, _≤_};
 ghost use lib.ListN.{length, getD, set};
+ghost use Rattle.std.specs.Options.{Cases};
 ghost use Rattle.table.specs.Chain.{heads-of, link-of};
 ghost use Rattle.table.specs.Numbers.{place-in};
 
@@ -33,7 +34,8 @@ impl Chains {
         requires few { ⌜ count ≤ 200 ⌝ }
         requires heads { ⌜ now self .heads ≡ heads-of (now pairs) count ⌝ }
         requires links { ⌜ ((k : ℕ) → k < count → getD (now self .links) k 0 ≡ link-of (now pairs) k) ⌝ }
-        ensures { λ r. ⌜ r ≡ place-in (now (pairs .entry)) count first second ⌝ }
+        ensures place { λ r. ⌜ r ≡ place-in (now (pairs .entry)) count first second ⌝ }
+        ensures bound { λ r. ⌜ Cases r (Unit {0}) (λ k. k < count) ⌝ }
     {
         let mut at = self.heads[first as usize] as usize;
         while at > 0 {

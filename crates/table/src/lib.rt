@@ -3,6 +3,7 @@ mod buffer;
 mod chain;
 mod fault;
 mod laws;
+mod layout;
 mod piece;
 mod valley;
 mod view;

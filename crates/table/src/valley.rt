@@ -2,7 +2,7 @@
 ghost use mathlib.Core.Path.{_≡_};
 ghost use Rattle.table.specs.Meaning.{pairs-of, rules-of};
 ghost use Rattle.table.specs.Numbers.{pairs-in};
-ghost use Rattle.table.specs.Valley.{valley, valley-numbers, valley-pair};
+ghost use Rattle.table.specs.Valley.{valley, valley-list, valley-pair};
 use crate::view::Table;
 
 // Three weights for each letter, letter after letter.
@@ -782,7 +782,7 @@ static VALLEY_PAIRS: [u16; 5] = [99, 104, 35, 1, 1];
 
 // The numbers of the letters, which follow the rule at all of their places.
 pub fn valley_letters() -> &'static [u16]
-    ensures { λ r. ⌜ now r ≡ valley-numbers ⌝ }
+    ensures { λ r. ⌜ now r ≡ valley-list ⌝ }
 {
     &VALLEY_LETTERS
 }

@@ -49,7 +49,7 @@ refusal-sentence (Twice k) = codes "these two letters are a pair already"
 
 abbrev pub sentence-of : Fault → List ℕ
 sentence-of (Table why) = refusal-sentence why
-sentence-of (Text line) = codes "a line is 'letter X a b c' or 'pair X Y a b c', with weights from 0 to 65535"
+sentence-of (Text line) = codes "a line is 'letter X a b c' or 'pair X Y a b c', with letters up to U+00FF and weights up to 65535"
 
 abbrev pub fault-text : Fault → List ℕ
 fault-text f = codes "turned away with " ++ (decimal (fault-number f) ++ (codes " at " ++ (decimal (fault-place f) ++ (codes ": " ++ sentence-of f))))

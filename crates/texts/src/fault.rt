@@ -43,7 +43,7 @@ impl Fault {
         match self {
             Fault::Table(why) => refusal_sentence(why),
             Fault::Text(_) =>
-                "a line is 'letter X a b c' or 'pair X Y a b c', with weights from 0 to 65535",
+                "a line is 'letter X a b c' or 'pair X Y a b c', with letters up to U+00FF and weights up to 65535",
         }
     }
 }

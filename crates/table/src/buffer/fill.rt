@@ -10,6 +10,8 @@ use crate::buffer::TableBuf;
 use crate::fault::AddError;
 use crate::fault::AddErrorFromAlloc;
 use crate::fault::Refusal;
+use crate::layout::pair_numbers;
+use crate::layout::set_weights;
 use crate::piece::Pair;
 use crate::piece::Weights;
 use crate::view::Table;
@@ -35,10 +37,7 @@ impl TableBuf {
         ensures rules { λ _. ⌜ buffer-rules (now (self .exit)) ≡ with-letter (buffer-rules (now (self .entry))) letter weights ⌝ }
         ensures pairs { λ _. ⌜ buffer-pairs (now (self .exit)) ≡ buffer-pairs (now (self .entry)) ⌝ }
     {
-        let at = 3 * letter as usize;
-        self.letters[at] = weights.primary;
-        self.letters[at + 1] = weights.secondary;
-        self.letters[at + 2] = weights.tertiary;
+        set_weights(&mut self.letters, 3 * letter as usize, weights);
     }
 
     // One pair more, behind the others.
@@ -48,9 +47,7 @@ impl TableBuf {
         if let Some(why) = self.refuses(pair) {
             return Err(AddError::Refused(why));
         }
-        let w = pair.weights;
-        self.pairs
-            .extend_from_slice(&[pair.first, pair.second, w.primary, w.secondary, w.tertiary])?;
+        self.pairs.extend_from_slice(&pair_numbers(pair))?;
         self.count += 1;
         Ok(())
     }

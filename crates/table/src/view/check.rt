@@ -10,7 +10,7 @@ ghost use Rattle.std.specs.declared.option.Option.the-variants.{Some, None};
 ghost use Rattle.table.specs.Chain.{heads-of, link-of};
 ghost use Rattle.table.specs.Meaning.{pairs-of, rules-of};
 ghost use Rattle.table.specs.Numbers.{pairs-in};
-ghost use Rattle.table.specs.Refusals.{first-place, foreign, refusal, repeated};
+ghost use Rattle.table.specs.Refusals.{first-place, foreign, refusal, repeated, shape-refusal};
 ghost use Rattle.table.specs.Rules.{no-rules, rules-in};
 use crate::chain::Chains;
 use crate::fault::Refusal;
@@ -27,16 +27,10 @@ impl<'a> Table<'a> {
         ensures rules { λ c. ⌜ rules-of (c .table) ≡ cond (isSome (c .refusal)) no-rules (rules-in (now (letters .entry)) (now (pairs .entry)) «how_many») ⌝ }
         ensures pairs { λ c. ⌜ pairs-of (c .table) ≡ cond (isSome (c .refusal)) [] (pairs-in (now (pairs .entry)) «how_many») ⌝ }
     {
-        if letters.len() != 3 * Table::LETTERS {
-            return Checked::refused(Refusal::Letters);
+        if let Some(why) = shape_refusal(letters.len(), pairs.len(), how_many) {
+            return Checked::refused(why);
         }
-        if pairs.len() % 5 != 0 || (pairs.len() / 5) as u64 != how_many {
-            return Checked::refused(Refusal::Shape);
-        }
-        let count = pairs.len() / 5;
-        if count > Table::MAX_PAIRS {
-            return Checked::refused(Refusal::TooMany);
-        }
+        let count = how_many as usize;
         if let Some(k) = first_foreign(pairs, count) {
             return Checked::refused(Refusal::Foreign(k));
         }
@@ -80,6 +74,22 @@ impl Checked<'_> {
             table: Table::blank(),
         }
     }
+}
+
+// What is wrong with how many numbers there are.
+fn shape_refusal(letters: usize, pairs: usize, how_many: u64) -> Option<Refusal>
+    ensures { λ r. ⌜ r ≡ shape-refusal letters pairs «how_many» ⌝ }
+{
+    if letters != 3 * Table::LETTERS {
+        return Some(Refusal::Letters);
+    }
+    if pairs % 5 != 0 || (pairs / 5) as u64 != how_many {
+        return Some(Refusal::Shape);
+    }
+    if how_many > Table::MAX_PAIRS as u64 {
+        return Some(Refusal::TooMany);
+    }
+    None
 }
 
 // Whether one of a pair's letters is above 255.

@@ -1,12 +1,12 @@
 // Looking up what letters weigh.
 ghost use mathlib.Core.Path.{_≡_};
 ghost use mathlib.Core.List.{[], _∷_};
-ghost use Prim.Native.Nat.{ℕ, _+_, _<_};
 ghost use lib.ListN.{length};
 ghost use Rattle.std.specs.Finite.{nth};
 ghost use Rattle.table.specs.Meaning.{pairs-of, rules-of};
-ghost use Rattle.table.specs.Numbers.{weights-at};
 ghost use Rattle.table.specs.Rules.{contraction};
+use crate::layout::read_pair;
+use crate::layout::weights_at;
 use crate::piece::Pair;
 use crate::piece::Weights;
 use crate::view::Table;
@@ -50,24 +50,6 @@ impl Table<'_> {
         if place >= self.count {
             return None;
         }
-        let first = self.pairs[5 * place];
-        let second = self.pairs[5 * place + 1];
-        Some(Pair {
-            first,
-            second,
-            weights: weights_at(self.pairs, 5 * place + 2),
-        })
-    }
-}
-
-// The three weights that stand from `at` on.
-fn weights_at(numbers: &[u16], at: usize) -> Weights
-    requires { ⌜ at + 2 < length (now numbers) ⌝ }
-    ensures { λ r. ⌜ r ≡ weights-at (now (numbers .entry)) at ⌝ }
-{
-    Weights {
-        primary: numbers[at],
-        secondary: numbers[at + 1],
-        tertiary: numbers[at + 2],
+        Some(read_pair(self.pairs, place))
     }
 }

@@ -25,7 +25,7 @@ ghost-self-2 c =
     let ps = vec-items (b .pairs) in
     let k = ap (λ k. pair-refusal (buffer-rules b) k (c .args .pair)) (length-map-counting (pair-at ps) 0 (b .count)) in
     let n = refusal-more ps (b .count) (c .args .pair) (s .fives) ls (s .whole) (s .known) (s .apart) in
-    let i = c .in-Continue-extend-from-slice .ensures tt .items in
+    let i = c .in-Continue-extend-from-slice .ensures tt .items ∙ ap (λ xs. ps ++ xs) (c .pair-numbers .ensures) in
     (ap (λ qs. isSome (refusal ls qs (b .count + 1))) i ∙ ap isSome (n ∙ sym k ∙ sym (c .in-rest .ensures tt)), tt)
 
 pub returns : need.returns
@@ -33,7 +33,7 @@ returns c =
     let b = c .args .self .now in
     let s = sound _ _ _ (b .sound) in
     let ps = vec-items (b .pairs) in
-    let i = c .in-Continue-extend-from-slice .ensures tt .items in (
+    let i = c .in-Continue-extend-from-slice .ensures tt .items ∙ ap (λ xs. ps ++ xs) (c .pair-numbers .ensures) in (
       sym (c .in-rest .ensures tt),
       ap (λ qs. rules-in (vec-items (b .letters)) qs (b .count + 1)) i ∙ rules-more ps (b .count) (c .args .pair) (s .fives) (vec-items (b .letters)),
       ap (λ qs. pairs-in qs (b .count + 1)) i ∙ pairs-more ps (b .count) (c .args .pair) (s .fives),

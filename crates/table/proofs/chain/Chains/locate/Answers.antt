@@ -15,8 +15,11 @@ loop-at-holds c =
     rw (h, e) (m, g, sym s)
 
 pub returns-then-pairs-k : need.returns-then-pairs-k
-returns-then-pairs-k c =
-    sym (sym (c .loop-at .inv .2) ∙ here (c .args .pairs .now) (c .args .first) (c .args .second) (c .loop-at .at) _ (omega arith) (c .loop-at .inv .1) (c .if-pairs-k .taken))
+returns-then-pairs-k c = record {
+  place =
+      sym (sym (c .loop-at .inv .2) ∙ here (c .args .pairs .now) (c .args .first) (c .args .second) (c .loop-at .at) _ (omega arith) (c .loop-at .inv .1) (c .if-pairs-k .taken));
+  bound = omega arith;
+}
 
 pub loop-at-less : need.loop-at-less
 loop-at-less c =
@@ -34,4 +37,4 @@ loop-at-again c =
 
 pub returns : need.returns
 unfolding place-in
-returns c = let z : c .loop-at .at ≡ 0 = omega arith in let i = c .loop-at .inv .2 in rw z at i
+returns c = let z : c .loop-at .at ≡ 0 = omega arith in let i = c .loop-at .inv .2 in record { place = rw z at i; bound = tt }

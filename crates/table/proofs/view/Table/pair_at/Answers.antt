@@ -9,7 +9,4 @@ pub returns-then-place-self : need.returns-then-place-self
 returns-then-place-self c = sym (nth-none (c .args .self .now .pairs .now) (c .args .self .now .count) (c .args .place) (omega arith))
 
 pub returns : need.returns
-returns c =
-    let ps = c .args .self .now .pairs .now in
-    let k = c .args .place in
-    sym (nth-pair ps (c .args .self .now .count) k (omega arith) ∙ ap (λ w. Some (record { first = first-at ps k; second = second-at ps k; weights = w })) (sym (c .weights-at .ensures)))
+returns c = sym (nth-pair (c .args .self .now .pairs .now) (c .args .self .now .count) (c .args .place) (omega arith) ∙ ap Some (sym (c .read-pair .ensures)))

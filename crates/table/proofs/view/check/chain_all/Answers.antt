@@ -28,7 +28,7 @@ cast-second c =
 
 pub returns-then-is-some : need.returns-then-is-some
 returns-then-is-some c =
-    let t : repeated (c .args .pairs .now) (c .loop-k .k) ≡ true = sym (c .if-is-some .ensures tt ∙ ap isSome (c .locate .ensures)) in
+    let t : repeated (c .args .pairs .now) (c .loop-k .k) ≡ true = sym (c .if-is-some .ensures tt ∙ ap isSome (c .locate .ensures .place)) in
     record {
       twice = sym (first-is (repeated (c .args .pairs .now)) (c .loop-k .k) (c .loop-k .inv .0) t (c .args .count) (omega arith));
       heads = λ e. absurd (let z : _≡_ {A = ℕ} 0 1 = cc in omega arith);
@@ -37,7 +37,7 @@ returns-then-is-some c =
 
 pub loop-k-again : need.loop-k-again
 loop-k-again c =
-    let t : repeated (c .args .pairs .now) (c .loop-k .k) ≡ false = sym (c .if-is-some .ensures tt ∙ ap isSome (c .locate .ensures)) in
+    let t : repeated (c .args .pairs .now) (c .loop-k .k) ≡ false = sym (c .if-is-some .ensures tt ∙ ap isSome (c .locate .ensures .place)) in
     let f = none-at (foreign (c .args .pairs .now)) (c .args .count) (c .pre .known) (c .loop-k .k) (omega arith) in
     let l = first-known (c .args .pairs .now) (c .loop-k .k) f in
     let m =
