@@ -18,33 +18,37 @@ use Rattle.table.specs.declared.piece.Weights.{Weights}
 use Rattle.table.specs.Numbers.{weights-at, place-in}
 use Rattle.table.specs.Refusals.{refusal, first-place}
 use Rattle.table.specs.Rules.{Rules, nothing, same-run, joins-in, weighs-in, rules-in}
-use Rattle.table.specs.Valley.{valley, valley-letter, valley-weighs, valley-numbers, valley-pair, level}
+use Rattle.table.specs.Valley.{valley, valley-letter, valley-weighs, valley-list, valley-pair, level}
 use Rattle.table.proofs.Saying.{same-rules, same-weights}
 
-numbers-end : length valley-numbers ≡ 768
-unfolding valley-numbers
+-- the numbers of the rule, kept shut so that no goal writes them out
+unfoldable pub numbers : List ℕ
+numbers = valley-list
+
+numbers-end : length numbers ≡ 768
+unfolding numbers
 numbers-end = length-map-counting (λ i. level (i % 3) (valley-letter (i / 3))) 0 768
 
-number-at : (a k : ℕ) → a < 256 → k < 3 → getD valley-numbers (3 * a + k) 0 ≡ level k (valley-letter a)
-unfolding valley-numbers
+number-at : (a k : ℕ) → a < 256 → k < 3 → getD numbers (3 * a + k) 0 ≡ level k (valley-letter a)
+unfolding numbers
 number-at a k l h =
     let d : (3 * a + k) / 3 ≡ a = omega arith in
     let m : (3 * a + k) % 3 ≡ k = omega arith in
     getD-map-counting (λ i. level (i % 3) (valley-letter (i / 3))) 0 768 (3 * a + k) (3 * a + k) 0 (omega arith) (omega arith)
     ∙ (ap (λ i. level i (valley-letter ((3 * a + k) / 3))) m ∙ ap (λ i. level k (valley-letter i)) d)
 
-letter-known : (a : ℕ) → a < 256 → weights-at valley-numbers (3 * a) ≡ valley-letter a
+letter-known : (a : ℕ) → a < 256 → weights-at numbers (3 * a) ≡ valley-letter a
 letter-known a l =
     let z : 3 * a + 0 ≡ 3 * a = omega arith in
-    let p = ap (λ i. getD valley-numbers i 0) (sym z) ∙ number-at a 0 l (omega arith) in
+    let p = ap (λ i. getD numbers i 0) (sym z) ∙ number-at a 0 l (omega arith) in
     same-weights _ _ p (number-at a 1 l (omega arith)) (number-at a 2 l (omega arith))
 
-letter-past : (a : ℕ) → 256 ≤ a → weights-at valley-numbers (3 * a) ≡ nothing
+letter-past : (a : ℕ) → 256 ≤ a → weights-at numbers (3 * a) ≡ nothing
 letter-past a l =
     let e = numbers-end in
-    same-weights _ _ (getD-past valley-numbers (3 * a) 0 (omega arith)) (getD-past valley-numbers (3 * a + 1) 0 (omega arith)) (getD-past valley-numbers (3 * a + 2) 0 (omega arith))
+    same-weights _ _ (getD-past numbers (3 * a) 0 (omega arith)) (getD-past numbers (3 * a + 1) 0 (omega arith)) (getD-past numbers (3 * a + 2) 0 (omega arith))
 
-letter-weighs : (a : ℕ) → weights-at valley-numbers (3 * a) ≡ cond (ltb a 256) (valley-letter a) nothing
+letter-weighs : (a : ℕ) → weights-at numbers (3 * a) ≡ cond (ltb a 256) (valley-letter a) nothing
 letter-weighs a =
     ⊎-elim
     (λ l. letter-known a l ∙ sym (cond-true (ltb a 256) (valley-letter a) nothing (lt-ltb a 256 l)))
@@ -58,16 +62,16 @@ joins-as (a ∷ []) = grind (arith, tells)
 joins-as (a ∷ (b ∷ [])) = grind (arith, tells)
 joins-as (a ∷ (b ∷ (c ∷ run))) = grind (arith, tells)
 
-weighs-as : (run : List ℕ) → weighs-in valley-numbers valley-pair 1 run ≡ valley-weighs run
+weighs-as : (run : List ℕ) → weighs-in numbers valley-pair 1 run ≡ valley-weighs run
 unfolding weighs-in place-in
 weighs-as [] = refl
 weighs-as (a ∷ []) = letter-weighs a
 weighs-as (a ∷ (b ∷ [])) = grind (arith, tells)
 weighs-as (a ∷ (b ∷ (c ∷ run))) = grind (arith, tells)
 
-pub valley-rules : rules-in valley-numbers valley-pair 1 ≡ valley
-valley-rules = same-rules (rules-in valley-numbers valley-pair 1) valley joins-as weighs-as
+pub valley-rules : rules-in numbers valley-pair 1 ≡ valley
+valley-rules = same-rules (rules-in numbers valley-pair 1) valley joins-as weighs-as
 
-pub valley-kept : refusal valley-numbers valley-pair 1 ≡ None
+pub valley-kept : refusal numbers valley-pair 1 ≡ None
 unfolding refusal first-place place-in
 valley-kept = rw (numbers-end)

@@ -19,6 +19,7 @@ use Rattle.table.specs.declared.piece.Pair.{Pair}
 use Rattle.table.specs.Numbers.{pairs-in}
 use Rattle.table.specs.Rules.{Rules, rules-in, with-pair}
 
+-- what it says
 abbrev pub buffer-rules : TableBuf → Rules
 buffer-rules b = rules-in (vec-items (b .letters)) (vec-items (b .pairs)) (b .count)
 

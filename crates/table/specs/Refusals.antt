@@ -40,6 +40,7 @@ foreign ps k = ltb 255 (first-at ps k) || ltb 255 (second-at ps k)
 abbrev pub repeated : List ℕ → ℕ → Bool
 repeated ps k = isSome (place-in ps k (first-at ps k) (second-at ps k))
 
+-- a place that was found is at fault; else see what comes next
 abbrev pub at-place : (ℕ → Refusal) → Option ℕ → Option Refusal → Option Refusal
 at-place why None next = next
 at-place why (Some k) next = Some (why k)
@@ -51,6 +52,7 @@ shape-refusal l p n =
     (cond (not (eqb p (5 * n))) (Some Shape)
     (cond (ltb 200 n) (Some TooMany) None))
 
+-- the first of two refusals
 abbrev pub or-else : Option Refusal → Option Refusal → Option Refusal
 or-else None next = next
 or-else (Some why) next = Some why

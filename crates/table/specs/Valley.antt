@@ -7,6 +7,7 @@ use Rattle.std.specs.Iters.{counting}
 use Rattle.table.specs.declared.piece.Weights.{Weights}
 use Rattle.table.specs.Rules.{Rules, nothing, same-run}
 
+-- x is a number from a to b
 abbrev pub within : ℕ → ℕ → ℕ → Bool
 within a b x = leb a x && leb x b
 
@@ -38,8 +39,6 @@ level k w = cond (eqb k 0) (w .primary) (cond (eqb k 1) (w .secondary) (w .terti
 abbrev pub valley-list : List ℕ
 valley-list = map (λ i. level (i % 3) (valley-letter (i / 3))) (counting 0 768)
 
-unfoldable pub valley-numbers : List ℕ
-valley-numbers = valley-list
-
+-- the one pair: c, h and their weights
 abbrev pub valley-pair : List ℕ
 valley-pair = 99 ∷ (104 ∷ (35 ∷ (1 ∷ (1 ∷ []))))

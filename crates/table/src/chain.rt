@@ -19,7 +19,7 @@ pub struct Chains {
 
 impl Chains {
     // No pair is chained yet.
-    pub fn new() -> Chains
+    pub(crate) fn new() -> Chains
         ensures heads { λ r. ⌜ ((ps : _) → r .heads ≡ heads-of ps 0) ⌝ }
     {
         Chains {
@@ -29,7 +29,7 @@ impl Chains {
     }
 
     // The place of the pair of two letters among the first `count`.
-    pub fn locate(&self, pairs: &[u16], count: usize, first: u8, second: u8) -> Option<usize>
+    pub(crate) fn locate(&self, pairs: &[u16], count: usize, first: u8, second: u8) -> Option<usize>
         requires within { ⌜ 5 * count ≤ length (now pairs) ⌝ }
         requires few { ⌜ count ≤ 200 ⌝ }
         requires heads { ⌜ now self .heads ≡ heads-of (now pairs) count ⌝ }
@@ -49,7 +49,7 @@ impl Chains {
     }
 
     // The pair at `place` is chained, in front of those that begin with the same letter.
-    pub fn link(&mut self, place: usize, first: u8)
+    pub(crate) fn link(&mut self, place: usize, first: u8)
         requires { ⌜ place < 200 ⌝ }
         ensures heads { λ _. ⌜ now (self .exit) .heads ≡ set (now (self .entry) .heads) first (place + 1) ⌝ }
         ensures links { λ _. ⌜ now (self .exit) .links ≡ set (now (self .entry) .links) place (getD (now (self .entry) .heads) first 0) ⌝ }

@@ -8,7 +8,7 @@ use crate::piece::Pair;
 use crate::piece::Weights;
 
 // The three weights that stand from `at` on.
-pub fn weights_at(numbers: &[u16], at: usize) -> Weights
+pub(crate) fn weights_at(numbers: &[u16], at: usize) -> Weights
     requires { ⌜ at + 2 < length (now numbers) ⌝ }
     ensures { λ r. ⌜ r ≡ weights-at (now (numbers .entry)) at ⌝ }
 {
@@ -20,7 +20,7 @@ pub fn weights_at(numbers: &[u16], at: usize) -> Weights
 }
 
 // Three weights written from `at` on.
-pub fn set_weights(numbers: &mut Vec<u16>, at: usize, weights: Weights)
+pub(crate) fn set_weights(numbers: &mut Vec<u16>, at: usize, weights: Weights)
     requires { ⌜ at + 2 < vec-len (now numbers) ⌝ }
     ensures { λ _. ⌜ vec-items (now (numbers .exit)) ≡ weights-set (vec-items (now (numbers .entry))) at weights ⌝ }
 {
@@ -30,7 +30,7 @@ pub fn set_weights(numbers: &mut Vec<u16>, at: usize, weights: Weights)
 }
 
 // The pair at a place.
-pub fn read_pair(numbers: &[u16], place: usize) -> Pair
+pub(crate) fn read_pair(numbers: &[u16], place: usize) -> Pair
     requires { ⌜ 5 * place + 4 < length (now numbers) ⌝ }
     ensures { λ r. ⌜ r ≡ pair-at (now (numbers .entry)) place ⌝ }
 {
@@ -45,7 +45,7 @@ pub fn read_pair(numbers: &[u16], place: usize) -> Pair
 }
 
 // The five numbers of a pair.
-pub fn pair_numbers(pair: Pair) -> [u16; 5]
+pub(crate) fn pair_numbers(pair: Pair) -> [u16; 5]
     ensures { λ r. ⌜ r ≡ numbers-of pair ⌝ }
 {
     let w = pair.weights;

@@ -1,9 +1,13 @@
 // Looking up what letters weigh.
 ghost use mathlib.Core.Path.{_≡_};
 ghost use mathlib.Core.List.{[], _∷_};
+ghost use Prim.Native.Nat.{_<_};
+ghost use denote.Ref.{now as held};
 ghost use lib.ListN.{length};
 ghost use Rattle.std.specs.Finite.{nth};
+ghost use Rattle.std.specs.Options.{Cases};
 ghost use Rattle.table.specs.Meaning.{pairs-of, rules-of};
+ghost use Rattle.table.specs.Numbers.{place-in};
 ghost use Rattle.table.specs.Rules.{contraction};
 use crate::layout::read_pair;
 use crate::layout::weights_at;
@@ -30,10 +34,18 @@ impl Table<'_> {
     pub fn pair(&self, first: u8, second: u8) -> Option<Weights>
         ensures { λ r. ⌜ r ≡ contraction (rules-of (now (self .entry))) (first ∷ (second ∷ [])) ⌝ }
     {
-        match self.chains.locate(self.pairs, self.count, first, second) {
+        match self.pair_place(first, second) {
             Some(k) => Some(weights_at(self.pairs, 5 * k + 2)),
             None => None,
         }
+    }
+
+    // The place of the pair of two letters.
+    fn pair_place(&self, first: u8, second: u8) -> Option<usize>
+        ensures place { λ r. ⌜ r ≡ place-in (held (now (self .entry) .pairs)) (now (self .entry) .count) first second ⌝ }
+        ensures bound { λ r. ⌜ Cases r (Unit {0}) (λ k. k < now (self .entry) .count) ⌝ }
+    {
+        self.chains.locate(self.pairs, self.count, first, second)
     }
 
     // How many pairs there are.

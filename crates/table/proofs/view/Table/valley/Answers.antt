@@ -6,12 +6,11 @@ use Rattle.std.specs.declared.option.Option.the-variants.{None}
 use Rattle.table.specs.Numbers.{pairs-in}
 use Rattle.table.specs.Refusals.{refusal}
 use Rattle.table.specs.Rules.{no-rules, rules-in}
-use Rattle.table.specs.Valley.{valley-numbers}
-use Rattle.table.proofs.Valleys.{valley-rules, valley-kept}
+use Rattle.table.proofs.Valleys.{numbers, valley-rules, valley-kept}
 use Rattle.table.proofs.view.Table.valley.Needs as need
 
 pub returns : need.returns
-unfolding valley-numbers
+unfolding numbers
 returns c =
     let l = c .valley-letters .ensures in
     let p = c .valley-pairs .ensures in
