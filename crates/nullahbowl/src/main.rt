@@ -29,14 +29,14 @@ fn main(rt: LibcRuntime) -> Result<(), AnyError> {
 
 // Does what the arguments say, and answers how much was turned away.
 fn run(rt: &LibcRuntime) -> Result<usize, AnyError> {
+    if asks_help(rt)? {
+        rt.print(HELP)?;
+        return Ok(0);
+    }
     let mut session = Session::new(rt.alloc())?;
     let mut faults = 0usize;
     let mut named = false;
     for name in env::args(rt)?.skip(1) {
-        if name.as_str() == "--help" {
-            rt.print(HELP)?;
-            return Ok(0);
-        }
         named = true;
         faults = faults.saturating_add(read_named(rt, &mut session, name.as_str())?);
     }
@@ -45,6 +45,15 @@ fn run(rt: &LibcRuntime) -> Result<usize, AnyError> {
     }
     write_table(rt, &session.table())?;
     Ok(faults)
+}
+
+fn asks_help(rt: &LibcRuntime) -> Result<bool, AnyError> {
+    for name in env::args(rt)?.skip(1) {
+        if name.as_str() == "--help" {
+            return Ok(true);
+        }
+    }
+    Ok(false)
 }
 
 // Reads a file, and answers how much of it was turned away.

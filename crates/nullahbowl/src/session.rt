@@ -1,11 +1,8 @@
 // What the lines read so far make.
-ghost use mathlib.Core.List.{[]};
 ghost use mathlib.Core.Path.{_≡_};
-ghost use Rattle.nullahbowl.specs.Sessions.{Pair-taken, Taken, session-pairs, session-rules};
+ghost use Rattle.nullahbowl.specs.Sessions.{Fresh, Pair-taken, Taken, session-pairs, session-rules};
 ghost use Rattle.std.specs.Vec.{made};
 ghost use Rattle.table.specs.Meaning.{pairs-of, rules-of};
-ghost use Rattle.table.specs.Numbers.{pairs-in};
-ghost use Rattle.table.specs.Valley.{valley, valley-pair};
 ghost use Rattle.texts.specs.Lines.{line-of};
 ghost use Rattle.texts.specs.Parts.{without-return};
 use std::alloc::AllocError;
@@ -34,8 +31,9 @@ pub enum TakeError {
 }
 
 impl Session {
+    // Nothing has been taken yet.
     pub fn new(heap: Global) -> Result<Session, AllocError>
-        ensures { λ r. ⌜ made r (λ s. (session-rules s ≡ valley) × (session-pairs s ≡ pairs-in valley-pair 1)) ⌝ }
+        ensures { λ r. ⌜ made r (λ s. Fresh s) ⌝ }
     {
         Ok(Session {
             table: TableBuf::new(heap)?,

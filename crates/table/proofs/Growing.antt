@@ -1,15 +1,13 @@
 -- One pair more behind the others.
 use mathlib.Core.Path.{_≡_, refl, sym, ap, ap₂, _∙_}
 use mathlib.Core.Bool.{Bool, true, false, _&&_, _||_, cond}
-use mathlib.Core.Logic.{⊎-elim}
-use mathlib.Core.List.{List, [], _∷_, _++_, map}
+use mathlib.Core.List.{List, [], _∷_, _++_}
 use Prim.Native.Nat.{ℕ, zero, suc, _+_, _-_, _*_, _<_, _≤_}
 use native.Mathlib.Numerals.{add-one}
 use native.Mathlib.Omega.{arith}
 use lib.Dec.{eqb, ltb, leb}
 use lib.ListN.{length, getD}
-use Rattle.std.specs.Iters.{counting}
-use Rattle.std.specs.Options.{isSome}
+use Rattle.std.specs.Options.{isSome, orOther}
 use Rattle.std.specs.declared.option.Option.{Option}
 use Rattle.std.specs.declared.option.Option.the-variants.{Some, None}
 use Rattle.std.proofs.shelf.Counted.{length-map-counting, getD-map-counting, map-counting-more}
@@ -17,12 +15,11 @@ use Rattle.std.proofs.shelf.Lists.{ext-getD, length-append, getD-append-left, g
 use Rattle.std.proofs.shelf.Tests.{eq-eqb}
 use Rattle.std.proofs.shelf.Ways.{tells}
 use Rattle.table.specs.declared.piece.Pair.{Pair}
-use Rattle.table.specs.declared.piece.Weights.{Weights}
 use Rattle.table.specs.declared.fault.Refusal.the-variants.{TooMany, Foreign, Twice}
 use Rattle.table.specs.Buffer.{pair-refusal}
-use Rattle.table.specs.Numbers.{weights-at, first-at, second-at, pair-at, pairs-in, numbers-of, is-pair, place-in}
-use Rattle.table.specs.Refusals.{first-place, foreign, repeated, refusal, at-place, or-else}
-use Rattle.table.specs.Rules.{Rules, nothing, same-run, joins-in, weighs-in, rules-in, with-pair, weights-of}
+use Rattle.table.specs.Numbers.{weights-at, first-at, second-at, pair-at, pairs-in, numbers-of, place-in}
+use Rattle.table.specs.Refusals.{first-place, foreign, repeated, refusal, at-place}
+use Rattle.table.specs.Rules.{same-run, joins-in, weighs-in, rules-in, with-pair, weights-of}
 use Rattle.table.proofs.Places.{place-below}
 use Rattle.table.proofs.Saying.{same-rules, same-weights}
 
@@ -155,7 +152,7 @@ module _ (ps : List ℕ) (n : ℕ) (p : Pair) (fives : length ps ≡ 5 * n) wher
         rw (i, j, f, r) (go (ltb 255 (p .first) || ltb 255 (p .second)) (isSome (place-in ps n (p .first) (p .second))) (many n))
       where
         at : (m x y : Bool) →
-            or-else (cond m (Some TooMany) None) (at-place Foreign (cond x (Some n) None) (at-place Twice (cond y (Some n) None) None))
+            orOther (cond m (Some TooMany) None) (at-place Foreign (cond x (Some n) None) (at-place Twice (cond y (Some n) None) None))
             ≡ cond m (Some TooMany) (cond x (Some (Foreign n)) (cond y (Some (Twice n)) None))
         at true x y = refl
         at false true y = refl
@@ -163,6 +160,6 @@ module _ (ps : List ℕ) (n : ℕ) (p : Pair) (fives : length ps ≡ 5 * n) wher
         at false false false = refl
 
         go : (x y : Bool) → ltb 200 (n + 1) ≡ leb 200 n →
-            or-else (cond (ltb 200 (n + 1)) (Some TooMany) None) (at-place Foreign (cond x (Some n) None) (at-place Twice (cond y (Some n) None) None))
+            orOther (cond (ltb 200 (n + 1)) (Some TooMany) None) (at-place Foreign (cond x (Some n) None) (at-place Twice (cond y (Some n) None) None))
             ≡ cond (leb 200 n) (Some TooMany) (cond x (Some (Foreign n)) (cond y (Some (Twice n)) None))
         go x y e = rw e (at (leb 200 n) x y)

@@ -1,27 +1,23 @@
 -- The laws of tables.
 use mathlib.Core.Path.{_≡_, refl, sym, ap, ap₂, _∙_}
-use mathlib.Core.Bool.{Bool, true, false, _&&_, _||_, cond}
-use mathlib.Core.List.{List, [], _∷_, _++_}
-use mathlib.Core.Logic.{_⊎_, inl, inr, ⊎-elim}
-use Prim.Native.Nat.{ℕ, zero, suc, _+_, _*_, _<_, _≤_}
+use mathlib.Core.Bool.{Bool, true, false}
+use mathlib.Core.List.{List, [], _∷_}
+use mathlib.Core.Logic.{⊎-elim}
+use Prim.Native.Nat.{ℕ, zero, suc, _<_}
 use native.Mathlib.Omega.{arith}
-use lib.Dec.{ltb, eqb}
-use lib.ListN.{length}
 use Rattle.std.specs.Options.{isSome}
-use Rattle.std.specs.declared.option.Option.{Option}
 use Rattle.std.specs.declared.option.Option.the-variants.{Some, None}
-use Rattle.std.proofs.shelf.Tests.{and-parts, eqb-true, eq-eqb, and-from, or-from, le-ltb, cases-bool, cases-order, true≢false}
+use Rattle.std.proofs.shelf.Tests.{or-from, le-ltb, cases-bool, cases-order, true≢false}
 use Rattle.std.proofs.shelf.Ways.{tells}
-use Rattle.table.specs.declared.fault.Refusal.{Refusal}
-use Rattle.table.specs.declared.fault.Refusal.the-variants.{Letters, Shape, TooMany, Foreign, Twice}
+use Rattle.table.specs.declared.fault.Refusal.the-variants.{Foreign, Twice}
 use Rattle.table.specs.Laws.{Same-pair, Known-pair, Is-table, Exactly-tables, First-foreign, First-twice, Just-pairs, Same-refusal}
-use Rattle.table.specs.Numbers.{first-at, second-at, is-pair, place-in, weights-at}
+use Rattle.table.specs.Numbers.{first-at, second-at, place-in}
 use Rattle.table.specs.Refusals.{first-place, foreign, repeated, refusal}
-use Rattle.table.specs.Rules.{joins-in, weighs-in, rules-in, weights-of}
+use Rattle.table.specs.Rules.{joins-in, weighs-in, weights-of}
 use Rattle.table.proofs.Firsts.{none-at}
 use Rattle.table.proofs.Growing.{refusal-more}
 use Rattle.table.proofs.Places.{place-below, first-known, second-known}
-use Rattle.table.proofs.Refusing.{Sound, sound, no-refusal, some-or-none, by-refusal}
+use Rattle.table.proofs.Refusing.{sound, no-refusal, some-or-none, by-refusal}
 
 -- where a pair is, and where it is not
 place-is : (ps : List ℕ) (n a b k : ℕ) → place-in ps n a b ≡ Some k → (first-at ps k ≡ a) × (second-at ps k ≡ b)

@@ -1,16 +1,15 @@
 -- What the place of a pair says.
-use mathlib.Core.Path.{_≡_, refl, sym, ap, _∙_}
-use mathlib.Core.Bool.{Bool, true, false, _&&_, cond}
+use mathlib.Core.Path.{_≡_, ap, _∙_}
+use mathlib.Core.Bool.{false}
 use mathlib.Core.List.{List}
-use Prim.Native.Nat.{ℕ, zero, suc, _+_, _<_, _≤_}
+use Prim.Native.Nat.{ℕ, zero, suc, _<_, _≤_}
 use native.Mathlib.Omega.{arith}
-use Rattle.std.specs.declared.option.Option.{Option}
 use Rattle.std.specs.declared.option.Option.the-variants.{Some, None}
 use Rattle.std.proofs.shelf.Tests.{ltb-false, or-parts}
 use Rattle.std.specs.Finite.{nth}
 use Rattle.std.proofs.shelf.Counted.{length-map-counting, getD-map-counting}
 use Rattle.std.proofs.shelf.Maps.{nth-getD, nth-past}
-use Rattle.table.specs.Numbers.{first-at, second-at, pair-at, pairs-in, is-pair, place-in}
+use Rattle.table.specs.Numbers.{first-at, second-at, pair-at, pairs-in, place-in}
 use Rattle.table.specs.Refusals.{foreign}
 
 pub place-below : (ps : List ℕ) (n a b k : ℕ) → place-in ps n a b ≡ Some k → k < n

@@ -1,11 +1,10 @@
 -- Which refusal it is, one test after the other.
 use mathlib.Core.Path.{_≡_, refl, subst⁻¹}
-use mathlib.Core.Bool.{Bool, true, false, not, cond}
+use mathlib.Core.Bool.{false}
 use mathlib.Core.List.{List}
 use mathlib.Core.Logic.{_⊎_, inl, inr, ⊎-elim}
 use Prim.Native.Nat.{ℕ, _*_, _<_, _≤_}
 use native.Mathlib.Omega.{arith}
-use lib.Dec.{eqb, ltb}
 use lib.ListN.{length}
 use Rattle.std.specs.declared.option.Option.{Option}
 use Rattle.std.specs.declared.option.Option.the-variants.{Some, None}
@@ -14,7 +13,7 @@ use Rattle.std.proofs.shelf.Tests.{eq-eqb, ne-eqb, lt-ltb, le-ltb, cases-eq, ca
 use Rattle.std.proofs.shelf.Ways.{tells}
 use Rattle.table.specs.declared.fault.Refusal.{Refusal}
 use Rattle.table.specs.declared.fault.Refusal.the-variants.{Letters, Shape, TooMany, Foreign, Twice}
-use Rattle.table.specs.Refusals.{first-place, foreign, repeated, refusal, at-place, shape-refusal}
+use Rattle.table.specs.Refusals.{first-place, foreign, repeated, refusal, shape-refusal}
 
 module _ (ls ps : List ℕ) (n : ℕ) where
   pub wrong-letters : (length ls ≡ 768 → ⊥) → refusal ls ps n ≡ Some Letters

@@ -1,15 +1,15 @@
 -- What tables say, equal where they agree on every run.
-use mathlib.Core.Path.{_≡_, refl, sym, ap, ap₂, fun-ext, _∙_}
-use mathlib.Core.Bool.{Bool, true, false}
+use mathlib.Core.Path.{_≡_, refl, fun-ext}
+use mathlib.Core.Bool.{false}
 use mathlib.Core.Logic.{⊎-elim}
 use mathlib.Core.List.{List, [], _∷_}
-use Prim.Native.Nat.{ℕ, _+_, _*_, _<_, _≤_}
+use Prim.Native.Nat.{ℕ, _+_, _*_}
 use native.Mathlib.Omega.{arith}
 use lib.ListN.{length, getD, replicate}
 use Rattle.std.proofs.shelf.Lists.{getD-replicate, getD-past, length-replicate}
 use Rattle.std.proofs.shelf.Tests.{cases-lt}
 use Rattle.table.specs.declared.piece.Weights.{Weights}
-use Rattle.table.specs.Numbers.{weights-at, place-in}
+use Rattle.table.specs.Numbers.{place-in}
 use Rattle.table.specs.Rules.{Rules, nothing, joins-in, weighs-in, rules-in, no-rules}
 
 pub same-rules : (t u : Rules) → ((run : List ℕ) → t .joins run ≡ u .joins run) → ((run : List ℕ) → t .weighs run ≡ u .weighs run) → t ≡ u

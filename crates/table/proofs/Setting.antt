@@ -1,18 +1,17 @@
--- The weights of one letter weights-set over those it had.
-use mathlib.Core.Path.{_≡_, refl, sym, ap, _∙_}
-use mathlib.Core.Bool.{Bool, true, false, _&&_, cond}
+-- The weights of one letter written over those it had.
+use mathlib.Core.Path.{_≡_, refl, _∙_}
+use mathlib.Core.Bool.{cond}
 use mathlib.Core.Logic.{_≢_, ⊎-elim}
 use mathlib.Core.List.{List, [], _∷_}
-use Prim.Native.Nat.{ℕ, _+_, _*_, _<_, _≤_}
+use Prim.Native.Nat.{ℕ, _+_, _*_, _<_}
 use native.Mathlib.Omega.{arith}
-use lib.Dec.{eqb}
 use lib.ListN.{length, getD, set}
 use Rattle.std.proofs.shelf.Lists.{length-set, getD-set-same, getD-set-other}
 use Rattle.std.proofs.shelf.Tests.{cases-eq, eq-eqb, ne-eqb}
 use Rattle.std.proofs.shelf.Ways.{tells}
 use Rattle.table.specs.declared.piece.Weights.{Weights}
 use Rattle.table.specs.Numbers.{weights-at, weights-set}
-use Rattle.table.specs.Rules.{Rules, same-run, joins-in, weighs-in, rules-in, with-letter}
+use Rattle.table.specs.Rules.{same-run, weighs-in, rules-in, with-letter}
 use Rattle.table.proofs.Saying.{same-rules, same-weights}
 
 pub length-written : (ls : List ℕ) (i : ℕ) (w : Weights) → length (weights-set ls i w) ≡ length ls

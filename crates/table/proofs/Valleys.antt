@@ -1,23 +1,20 @@
 -- The valley's numbers say what its rule says.
 use mathlib.Core.Path.{_≡_, refl, sym, ap, _∙_}
-use mathlib.Core.Bool.{Bool, true, false, _&&_, cond}
+use mathlib.Core.Bool.{cond}
 use mathlib.Core.Logic.{⊎-elim}
-use mathlib.Core.List.{List, [], _∷_, map}
+use mathlib.Core.List.{List, [], _∷_}
 use Prim.Native.Nat.{ℕ, _+_, _*_, _/_, _%_, _<_, _≤_}
 use native.Mathlib.Omega.{arith}
-use lib.Dec.{eqb, ltb}
+use lib.Dec.{ltb}
 use lib.ListN.{length, getD}
-use Rattle.std.specs.Iters.{counting}
-use Rattle.std.specs.Options.{isSome}
 use Rattle.std.specs.declared.option.Option.the-variants.{None}
 use Rattle.std.proofs.shelf.Counted.{length-map-counting, getD-map-counting}
 use Rattle.std.proofs.shelf.Lists.{getD-past}
 use Rattle.std.proofs.shelf.Tests.{cases-lt, lt-ltb, le-ltb, cond-true, cond-false}
 use Rattle.std.proofs.shelf.Ways.{tells}
-use Rattle.table.specs.declared.piece.Weights.{Weights}
 use Rattle.table.specs.Numbers.{weights-at, place-in}
 use Rattle.table.specs.Refusals.{refusal, first-place}
-use Rattle.table.specs.Rules.{Rules, nothing, same-run, joins-in, weighs-in, rules-in}
+use Rattle.table.specs.Rules.{nothing, same-run, joins-in, weighs-in, rules-in}
 use Rattle.table.specs.Valley.{valley, valley-letter, valley-weighs, valley-list, valley-pair, level}
 use Rattle.table.proofs.Saying.{same-rules, same-weights}
 

@@ -1,9 +1,9 @@
 -- What a table that is filled step by step says, and what a pair that is added changes.
-use mathlib.Core.Bool.{_||_, cond}
+use mathlib.Core.Bool.{cond}
 use mathlib.Core.Path.{_≡_}
 use mathlib.Core.List.{List, [], _∷_, _++_}
 use Prim.Native.Nat.{ℕ}
-use lib.Dec.{leb, ltb}
+use lib.Dec.{leb}
 use lib.ListN.{length}
 use Rattle.std.specs.Of.Vec.{vec-items}
 use Rattle.std.specs.declared.option.Option.{Option}
@@ -17,6 +17,7 @@ use Rattle.table.specs.declared.fault.Refusal.{Refusal}
 use Rattle.table.specs.declared.fault.Refusal.the-variants.{TooMany, Foreign, Twice}
 use Rattle.table.specs.declared.piece.Pair.{Pair}
 use Rattle.table.specs.Numbers.{pairs-in}
+use Rattle.table.specs.Refusals.{unknown}
 use Rattle.table.specs.Rules.{Rules, rules-in, with-pair}
 
 -- what it says
@@ -31,7 +32,7 @@ buffer-pairs b = pairs-in (vec-items (b .pairs)) (b .count)
 abbrev pub pair-refusal : Rules → (k : ℕ) → Pair → Option Refusal
 pair-refusal t k p =
     cond (leb 200 k) (Some TooMany)
-    (cond (ltb 255 (p .first) || ltb 255 (p .second)) (Some (Foreign k))
+    (cond (unknown (p .first) (p .second)) (Some (Foreign k))
     (cond (t .joins (p .first ∷ (p .second ∷ []))) (Some (Twice k)) None))
 
 -- the pair is added where nothing speaks against it; what is turned away, or finds no memory, changes nothing

@@ -15,6 +15,6 @@ last-from ps (suc k) a = cond (eqb (first-at ps k) a) (suc k) (last-from ps k a)
 abbrev pub heads-of : List ℕ → (n : ℕ) → List ℕ
 heads-of ps n = map (last-from ps n) (counting 0 256)
 
--- what is next in the chain behind the pair at place k
+-- what is next in the chain behind the pair at place k, counted from 1; 0 where there is none
 abbrev pub link-of : List ℕ → ℕ → ℕ
 link-of ps k = last-from ps k (first-at ps k)

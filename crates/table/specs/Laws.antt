@@ -1,8 +1,8 @@
--- What is promised of tables, in words that do not go by the order of the checks.
+-- What is promised of tables, in words that do not go by how they are checked. Which of several faults is told is said by
+-- `refusal` alone.
 use mathlib.Core.Bool.{true}
 use mathlib.Core.Path.{_≡_}
 use mathlib.Core.List.{List, [], _∷_, _++_}
-use mathlib.Core.Logic.{_⊎_}
 use Prim.Native.Nat.{ℕ, _+_, _*_, _<_, _≤_}
 use lib.ListN.{length}
 use Rattle.std.specs.declared.option.Option.the-variants.{Some, None}
@@ -29,7 +29,7 @@ pub record Is-table (ls ps : List ℕ) (n : ℕ) : Type 0 where
   pub known : (k : ℕ) → k < n → Known-pair ps k
   pub apart : (j k : ℕ) → j < k → k < n → Same-pair ps j k → ⊥
 
--- nothing is turned away but what is no table
+-- numbers are taken exactly if they are a table
 abbrev pub Exactly-tables : Type 0
 Exactly-tables = (ls ps : List ℕ) (n : ℕ) → (refusal ls ps n ≡ None → Is-table ls ps n) × (Is-table ls ps n → refusal ls ps n ≡ None)
 
@@ -59,6 +59,7 @@ abbrev pub Same-refusal : Type 0
 Same-refusal =
     (ls ps : List ℕ) (n : ℕ) (p : Pair) → refusal ls ps n ≡ None → refusal ls (ps ++ numbers-of p) (n + 1) ≡ pair-refusal (rules-in ls ps n) n p
 
+-- all of these
 pub record Laws : Type 0 where
   pub exactly-tables : Exactly-tables
   pub first-foreign : First-foreign

@@ -6,6 +6,7 @@ use Rattle.table.specs.declared.view.Table.{Table}
 use Rattle.table.specs.Numbers.{pairs-in}
 use Rattle.table.specs.Rules.{Rules, rules-in}
 
+-- its rules
 abbrev pub rules-of : Table → Rules
 rules-of t = rules-in (now (t .letters)) (now (t .pairs)) (t .count)
 

@@ -18,10 +18,11 @@ weights-at xs i = record { primary = getD xs i 0; secondary = getD xs (i + 1) 0;
 abbrev pub weights-set : List ℕ → ℕ → Weights → List ℕ
 weights-set xs i w = set (set (set xs i (w .primary)) (i + 1) (w .secondary)) (i + 2) (w .tertiary)
 
--- the two letters of the pair at place k
+-- the first letter of the pair at place k
 abbrev pub first-at : List ℕ → ℕ → ℕ
 first-at ps k = getD ps (5 * k) 0
 
+-- the second letter of the pair at place k
 abbrev pub second-at : List ℕ → ℕ → ℕ
 second-at ps k = getD ps (5 * k + 1) 0
 

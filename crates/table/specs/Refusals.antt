@@ -6,7 +6,7 @@ use lib.Dec.{eqb, ltb}
 use lib.ListN.{length}
 use Rattle.std.specs.declared.option.Option.{Option}
 use Rattle.std.specs.declared.option.Option.the-variants.{Some, None}
-use Rattle.std.specs.Options.{isSome}
+use Rattle.std.specs.Options.{isSome, orOther}
 use Rattle.table.specs.declared.fault.Refusal.{Refusal}
 use Rattle.table.specs.declared.fault.Refusal.the-variants.{Letters, Shape, TooMany, Foreign, Twice}
 use Rattle.table.specs.Numbers.{first-at, second-at, place-in}
@@ -32,9 +32,13 @@ unfoldable pub first-place : (ℕ → Bool) → (n : ℕ) → Option ℕ
 first-place test zero = None
 first-place test (suc k) = cond (isSome (first-place test k)) (first-place test k) (cond (test k) (Some k) None)
 
+-- one of two letters is above 255
+abbrev pub unknown : ℕ → ℕ → Bool
+unknown a b = ltb 255 a || ltb 255 b
+
 -- the pair at place k has a letter above 255
 abbrev pub foreign : List ℕ → ℕ → Bool
-foreign ps k = ltb 255 (first-at ps k) || ltb 255 (second-at ps k)
+foreign ps k = unknown (first-at ps k) (second-at ps k)
 
 -- the pair at place k equals an earlier one
 abbrev pub repeated : List ℕ → ℕ → Bool
@@ -52,14 +56,9 @@ shape-refusal l p n =
     (cond (not (eqb p (5 * n))) (Some Shape)
     (cond (ltb 200 n) (Some TooMany) None))
 
--- the first of two refusals
-abbrev pub or-else : Option Refusal → Option Refusal → Option Refusal
-or-else None next = next
-or-else (Some why) next = Some why
-
 -- the refusal of a table's numbers, the first in this order; None where they are a table
 unfoldable pub refusal : (letters pairs : List ℕ) → (n : ℕ) → Option Refusal
 refusal ls ps n =
-    or-else (shape-refusal (length ls) (length ps) n)
+    orOther (shape-refusal (length ls) (length ps) n)
     (at-place Foreign (first-place (foreign ps) n)
     (at-place Twice (first-place (repeated ps) n) None))

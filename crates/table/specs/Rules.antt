@@ -10,7 +10,8 @@ use Rattle.table.specs.declared.piece.Weights.{Weights}
 use Rattle.table.specs.declared.piece.Pair.{Pair}
 use Rattle.table.specs.Numbers.{weights-at, place-in}
 
--- Which runs of letters are one together (contractions), and what a piece weighs: a letter alone, or such a run.
+-- Which runs of letters are one together (contractions), and what a piece weighs: a letter alone, or such a run. What is
+-- neither weighs nothing.
 pub record Rules : Type 0 where
   pub joins : List ℕ → Bool
   pub weighs : List ℕ → Weights
@@ -54,6 +55,7 @@ joins-in ps n (a ∷ []) = false
 joins-in ps n (a ∷ (b ∷ [])) = isSome (place-in ps n a b)
 joins-in ps n (a ∷ (b ∷ (c ∷ run))) = false
 
+-- a letter weighs what stands at its place, two that are one what stands behind their letters
 unfoldable pub weighs-in : (letters pairs : List ℕ) → (n : ℕ) → List ℕ → Weights
 weighs-in ls ps n [] = nothing
 weighs-in ls ps n (a ∷ []) = weights-at ls (3 * a)

@@ -1,16 +1,15 @@
 -- The valley's table: the rule that its numbers follow.
-use mathlib.Core.Bool.{Bool, _&&_, cond}
+use mathlib.Core.Bool.{cond}
 use mathlib.Core.List.{List, [], _∷_, map}
-use Prim.Native.Nat.{ℕ, _+_, _-_, _*_, _/_, _%_}
-use lib.Dec.{eqb, leb, ltb}
+use Prim.Native.Nat.{ℕ, _-_, _*_, _/_, _%_}
+use lib.Dec.{eqb, ltb}
 use Rattle.std.specs.Iters.{counting}
+use Rattle.std.specs.Text.{within}
+use Rattle.table.specs.declared.piece.Pair.{Pair}
 use Rattle.table.specs.declared.piece.Weights.{Weights}
 use Rattle.table.specs.Rules.{Rules, nothing, same-run}
 
--- x is a number from a to b
-abbrev pub within : ℕ → ℕ → ℕ → Bool
-within a b x = leb a x && leb x b
-
+-- weights, level after level
 abbrev pub weigh : ℕ → ℕ → ℕ → Weights
 weigh p s t = record { primary = p; secondary = s; tertiary = t }
 
@@ -28,6 +27,7 @@ valley-weighs [] = nothing
 valley-weighs (a ∷ []) = cond (ltb a 256) (valley-letter a) nothing
 valley-weighs (a ∷ (b ∷ run)) = cond (same-run (99 ∷ (104 ∷ [])) (a ∷ (b ∷ run))) (weigh 35 1 1) nothing
 
+-- what the valley's table says
 abbrev pub valley : Rules
 valley = record { joins = same-run (99 ∷ (104 ∷ [])); weighs = valley-weighs }
 
@@ -42,3 +42,7 @@ valley-list = map (λ i. level (i % 3) (valley-letter (i / 3))) (counting 0 768)
 -- the one pair: c, h and their weights
 abbrev pub valley-pair : List ℕ
 valley-pair = 99 ∷ (104 ∷ (35 ∷ (1 ∷ (1 ∷ []))))
+
+-- the same as a pair
+abbrev pub valley-pairs : List Pair
+valley-pairs = record { first = 99; second = 104; weights = weigh 35 1 1 } ∷ []

@@ -1,7 +1,6 @@
 // The pairs that begin with the same letter, chained from the last to the first, so that looking one up
 // meets no pair that begins with another letter.
 ghost use mathlib.Core.Path.{_≡_};
-ghost use mathlib.Core.Bool.{true};
 ghost use Prim.Native.Nat.{ℕ, _+_, _*_, _<_, _≤_};
 ghost use lib.ListN.{length, getD, set};
 ghost use Rattle.std.specs.Options.{Cases};

@@ -1,8 +1,7 @@
 // The valley's own table: 768 weights and one pair.
 ghost use mathlib.Core.Path.{_≡_};
 ghost use Rattle.table.specs.Meaning.{pairs-of, rules-of};
-ghost use Rattle.table.specs.Numbers.{pairs-in};
-ghost use Rattle.table.specs.Valley.{valley, valley-list, valley-pair};
+ghost use Rattle.table.specs.Valley.{valley, valley-list, valley-pair, valley-pairs};
 use crate::view::Table;
 
 // Three weights for each letter, letter after letter.
@@ -798,7 +797,7 @@ impl Table<'_> {
     // The table that is used where no other is given.
     pub fn valley() -> Table<'static>
         ensures rules { λ r. ⌜ rules-of r ≡ valley ⌝ }
-        ensures pairs { λ r. ⌜ pairs-of r ≡ pairs-in valley-pair 1 ⌝ }
+        ensures pairs { λ r. ⌜ pairs-of r ≡ valley-pairs ⌝ }
     {
         Table::check(valley_letters(), valley_pairs(), 1).table
     }

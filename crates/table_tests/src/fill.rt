@@ -4,6 +4,8 @@ use table::AddError;
 use table::AddErrorDebug;
 use table::AddErrorPartialEq;
 use table::Pair;
+use table::PairDebug;
+use table::PairPartialEq;
 use table::Refusal;
 use table::TableBuf;
 use table::Weights;
@@ -40,13 +42,14 @@ fn add(
     table: &mut TableBuf,
     first: u16,
     second: u16,
+    weights: Weights,
     answer: Result<(), AddError>,
 ) -> Result<(), Fail> {
     check_eq(
         table.add_pair(Pair {
             first,
             second,
-            weights: ONE,
+            weights,
         }),
         answer,
     )
@@ -77,29 +80,42 @@ fn letters(rt: LibcRuntime) -> Result<(), Fail> {
 #[test]
 fn pairs(rt: LibcRuntime) -> Result<(), Fail> {
     let mut table = TableBuf::new(rt.alloc())?;
-    add(&mut table, 0, 255, Ok(()))?;
-    add(&mut table, 255, 0, Ok(()))?;
+    add(&mut table, 0, 255, ONE, Ok(()))?;
+    add(&mut table, 255, 0, TWO, Ok(()))?;
+    table.set_letter(97, TWO);
     add(
         &mut table,
         0,
         255,
+        TWO,
         Err(AddError::Refused(Refusal::Twice(2))),
     )?;
     add(
         &mut table,
         256,
         1,
+        ONE,
         Err(AddError::Refused(Refusal::Foreign(2))),
     )?;
     add(
         &mut table,
         1,
         65535,
+        ONE,
         Err(AddError::Refused(Refusal::Foreign(2))),
     )?;
+    hold_letters(&table, &[(96, NONE), (97, TWO)])?;
     check_eq(table.table().pair(0, 255), Some(ONE))?;
-    check_eq(table.table().pair(255, 0), Some(ONE))?;
+    check_eq(table.table().pair(255, 0), Some(TWO))?;
     check_eq(table.table().pair(0, 0), None)?;
+    check_eq(
+        table.table().pair_at(1),
+        Some(Pair {
+            first: 255,
+            second: 0,
+            weights: TWO,
+        }),
+    )?;
     check_eq(table.table().pair_count(), 2)
 }
 
@@ -108,11 +124,29 @@ fn pairs(rt: LibcRuntime) -> Result<(), Fail> {
 fn many_pairs(rt: LibcRuntime) -> Result<(), Fail> {
     let mut table = TableBuf::new(rt.alloc())?;
     for k in 0..200u16 {
-        add(&mut table, 7, k, Ok(()))?;
+        add(&mut table, 7, k, ONE, Ok(()))?;
     }
-    add(&mut table, 7, 200, Err(AddError::Refused(Refusal::TooMany)))?;
-    add(&mut table, 7, 0, Err(AddError::Refused(Refusal::TooMany)))?;
-    add(&mut table, 256, 0, Err(AddError::Refused(Refusal::TooMany)))?;
+    add(
+        &mut table,
+        7,
+        200,
+        ONE,
+        Err(AddError::Refused(Refusal::TooMany)),
+    )?;
+    add(
+        &mut table,
+        7,
+        0,
+        ONE,
+        Err(AddError::Refused(Refusal::TooMany)),
+    )?;
+    add(
+        &mut table,
+        256,
+        0,
+        ONE,
+        Err(AddError::Refused(Refusal::TooMany)),
+    )?;
     check_eq(table.table().pair(7, 199), Some(ONE))?;
     check_eq(table.table().pair_count(), 200)
 }

@@ -1,4 +1,6 @@
 // Which numbers are turned away, with which place.
+use std::alloc::AllocError;
+use std::alloc::Global;
 use std::test::*;
 use table::Refusal;
 use table::RefusalDebug;
@@ -42,7 +44,13 @@ fn shapes() -> Result<(), Fail> {
                 18446744073709551615,
                 Some(Refusal::Shape),
             ),
-            Case(768, &[], 3689348814741910324, Some(Refusal::Shape)),
+            // Five times this is 2^64 + 4.
+            Case(
+                768,
+                &[1, 2, 3, 4],
+                3689348814741910324,
+                Some(Refusal::Shape),
+            ),
         ],
     )
 }
@@ -89,6 +97,13 @@ fn two_faults() -> Result<(), Fail> {
     hold(
         &[
             Case(767, &[1, 2], 1, Some(Refusal::Letters)),
+            Case(767, &[256, 2, 1, 1, 1], 1, Some(Refusal::Letters)),
+            Case(
+                767,
+                &[1, 2, 1, 1, 1, 1, 2, 1, 1, 1],
+                2,
+                Some(Refusal::Letters),
+            ),
             Case(768, &[256, 2], 201, Some(Refusal::Shape)),
             Case(
                 768,
@@ -112,17 +127,52 @@ fn two_faults() -> Result<(), Fail> {
     )
 }
 
-// 200 pairs are taken, 201 are not, whatever else is wrong with them.
-#[test]
-fn many_pairs(rt: LibcRuntime) -> Result<(), Fail> {
-    let mut pairs = Vec::new(rt.alloc());
-    for k in 0..200u16 {
+// `good` pairs of known letters, and behind them one of two given letters.
+fn numbers_of(heap: Global, good: u16, first: u16, second: u16) -> Result<Vec<u16>, AllocError> {
+    let mut pairs = Vec::new(heap);
+    for k in 0..good {
         pairs.extend_from_slice(&[k, 9, 1, 2, 3])?;
     }
-    check_eq(refusal(768, pairs.as_slice(), 200), None)?;
-    check_eq(refusal(768, pairs.as_slice(), 199), Some(Refusal::Shape))?;
-    pairs.extend_from_slice(&[300, 300, 1, 2, 3])?;
-    check_eq(refusal(768, pairs.as_slice(), 201), Some(Refusal::TooMany))
+    pairs.extend_from_slice(&[first, second, 1, 2, 3])?;
+    Ok(pairs)
+}
+
+// 200 pairs are taken, 201 are not, whatever else is wrong with them; the last place is looked at.
+#[test]
+fn many_pairs(rt: LibcRuntime) -> Result<(), Fail> {
+    let heap = rt.alloc();
+    check_eq(
+        refusal(768, numbers_of(heap, 199, 199, 9)?.as_slice(), 200),
+        None,
+    )?;
+    check_eq(
+        refusal(768, numbers_of(heap, 199, 256, 9)?.as_slice(), 200),
+        Some(Refusal::Foreign(199)),
+    )?;
+    check_eq(
+        refusal(768, numbers_of(heap, 199, 0, 9)?.as_slice(), 200),
+        Some(Refusal::Twice(199)),
+    )?;
+    check_eq(
+        refusal(768, numbers_of(heap, 199, 199, 9)?.as_slice(), 199),
+        Some(Refusal::Shape),
+    )?;
+    check_eq(
+        refusal(768, numbers_of(heap, 200, 200, 9)?.as_slice(), 201),
+        Some(Refusal::TooMany),
+    )?;
+    check_eq(
+        refusal(768, numbers_of(heap, 200, 300, 9)?.as_slice(), 201),
+        Some(Refusal::TooMany),
+    )?;
+    check_eq(
+        refusal(768, numbers_of(heap, 200, 0, 9)?.as_slice(), 201),
+        Some(Refusal::TooMany),
+    )?;
+    check_eq(
+        refusal(767, numbers_of(heap, 200, 200, 9)?.as_slice(), 201),
+        Some(Refusal::Letters),
+    )
 }
 
 // Every refusal of a table has the number 1; its place is the pair's, or 0.

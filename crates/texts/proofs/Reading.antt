@@ -1,15 +1,14 @@
 -- Digits read from the front.
 use mathlib.Core.Path.{_≡_, refl, sym, ap, _∙_}
-use mathlib.Core.Bool.{Bool, true, false, _&&_, cond}
+use mathlib.Core.Bool.{true, false, _&&_}
 use mathlib.Core.List.{List, [], _∷_}
-use Prim.Native.Nat.{ℕ, zero, suc, _+_, _-_, _*_, _<_, _≤_}
+use Prim.Native.Nat.{ℕ, _+_, _-_, _*_, _<_, _≤_}
 use native.Mathlib.Omega.{arith}
-use lib.Dec.{leb, ltb}
+use lib.Dec.{ltb}
 use lib.ListN.{length, getD, drop}
-use Rattle.std.specs.declared.option.Option.{Option}
 use Rattle.std.specs.declared.option.Option.the-variants.{Some, None}
-use Rattle.std.proofs.shelf.Lists.{at-drop-more, at-drop-all, drop-all}
-use Rattle.std.proofs.shelf.Tests.{lt-leb, le-leb, lt-ltb, and-left, and-right, and-from}
+use Rattle.std.proofs.shelf.Lists.{at-drop-more, drop-all}
+use Rattle.std.proofs.shelf.Tests.{lt-leb, le-leb, lt-ltb, and-right}
 use Rattle.std.proofs.shelf.Ways.{tells}
 use Rattle.std.specs.Text.{asciiDigit}
 use Rattle.texts.specs.Numerals.{all-digits, value, number-of}
@@ -19,10 +18,6 @@ pub value-least : (n : ℕ) (xs : List ℕ) → n ≤ value n xs
 unfolding value
 value-least n [] = omega arith
 value-least n (x ∷ xs) = let ih = value-least (10 * n + (x - 48)) xs in omega arith
-
-and-false : (b : Bool) → (b && false) ≡ false
-and-false true = refl
-and-false false = refl
 
 -- what the digits from place i on say, if those before it said n
 pub record Says (w : List ℕ) (i n : ℕ) : Type 0 where
@@ -45,7 +40,7 @@ module _ (w : List ℕ) (i n : ℕ) (l : i < length w) (s : Says w i n) where
   pub too-large : 65535 < 10 * n + (getD w i 0 - 48) → number-of w ≡ None
   too-large h = let v = value-is in let m = value-least (10 * n + (getD w i 0 - 48)) (drop (i + 1) w) in
       let t = lt-leb (value 0 w) 65535 (omega arith) in
-      rw (t, and-false (all-digits w), and-false (ltb 0 (length w)))
+      rw (t, and-right (all-digits w) false refl, and-right (ltb 0 (length w)) false refl)
 
   pub one-more : asciiDigit (getD w i 0) ≡ true → 10 * n + (getD w i 0 - 48) ≤ 65535 → Says w (i + 1) (10 * n + (getD w i 0 - 48))
   one-more e h = record { digits = sym (digits-are ∙ ap (λ d. d && all-digits (drop (i + 1) w)) e); rest = sym value-is; small = h }

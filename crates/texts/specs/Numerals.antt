@@ -8,6 +8,7 @@ use Rattle.std.specs.Text.{asciiDigit, within}
 use Rattle.std.specs.declared.option.Option.{Option}
 use Rattle.std.specs.declared.option.Option.the-variants.{Some, None}
 
+-- nothing but digits
 unfoldable pub all-digits : List ℕ → Bool
 all-digits [] = true
 all-digits (x ∷ xs) = asciiDigit x && all-digits xs
@@ -25,6 +26,7 @@ number-of w = cond (ltb 0 (length w) && (all-digits w && leb (value 0 w) 65535))
 abbrev pub hex-digit : ℕ → Option ℕ
 hex-digit x = cond (asciiDigit x) (Some (x - 48)) (cond (within 65 70 x) (Some (x - 55)) (cond (within 97 102 x) (Some (x - 87)) None))
 
+-- the number of four hexadecimal digits
 abbrev pub hex-of : Option ℕ → Option ℕ → Option ℕ → Option ℕ → Option ℕ
 hex-of None b c d = None
 hex-of (Some w) None c d = None

@@ -26,6 +26,7 @@ parts-left m (Some rest) = parts m rest
 abbrev pub words : List ℕ → List (List ℕ)
 words = parts 32
 
+-- the words of what is left of a line
 abbrev pub words-left : Option (List ℕ) → List (List ℕ)
 words-left = parts-left 32
 

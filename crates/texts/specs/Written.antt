@@ -1,10 +1,10 @@
 -- How letters, commands and messages are written.
-use mathlib.Core.Bool.{_&&_, cond}
+use mathlib.Core.Bool.{true, _&&_, cond}
 use mathlib.Core.List.{List, [], _∷_, _++_}
-use Prim.Native.Nat.{ℕ, _+_, _/_, _%_}
+use Prim.Native.Nat.{ℕ, _/_, _%_}
 use lib.Chars.{codes}
-use lib.Dec.{leb, ltb}
-use Rattle.std.specs.Written.{decimal}
+use lib.Dec.{leb}
+use Rattle.std.specs.Written.{decimal, glyph}
 use Rattle.table.specs.declared.fault.Refusal.{Refusal}
 use Rattle.table.specs.declared.fault.Refusal.the-variants.{Letters, Shape, TooMany, Foreign, Twice}
 use Rattle.table.specs.declared.piece.Weights.{Weights}
@@ -14,32 +14,32 @@ use Rattle.texts.specs.declared.fault.Fault.the-variants.{Table, Text}
 use Rattle.texts.specs.declared.line.Command.{Command}
 use Rattle.texts.specs.declared.line.Command.the-variants.{SetLetter, AddPair}
 
--- a digit of 0 to 15
-abbrev pub hex-glyph : ℕ → ℕ
-hex-glyph d = cond (ltb d 10) (48 + d) (55 + d)
-
--- a letter is written as itself where that is a mark on paper, else by its number
+-- a letter is written as itself where it can be seen, else by its number, in large hexadecimal digits
 abbrev pub letter-text : ℕ → List ℕ
 letter-text a =
     cond (leb 33 a && leb a 126) (a ∷ [])
-    (codes "U+" ++ (hex-glyph (a / 4096) ∷ (hex-glyph (a / 256 % 16) ∷ (hex-glyph (a / 16 % 16) ∷ (hex-glyph (a % 16) ∷ [])))))
+    (codes "U+" ++ (glyph true (a / 4096) ∷ (glyph true (a / 256 % 16) ∷ (glyph true (a / 16 % 16) ∷ (glyph true (a % 16) ∷ [])))))
 
+-- three numbers with a space between
 abbrev pub weights-text : Weights → List ℕ
 weights-text w = decimal (w .primary) ++ (codes " " ++ (decimal (w .secondary) ++ (codes " " ++ decimal (w .tertiary))))
 
+-- a command, as the line that says it
 abbrev pub command-text : Command → List ℕ
 command-text (SetLetter a w) = codes "letter " ++ (letter-text a ++ (codes " " ++ weights-text w))
 command-text (AddPair p) = codes "pair " ++ (letter-text (p .first) ++ (codes " " ++ (letter-text (p .second) ++ (codes " " ++ weights-text (p .weights)))))
 
--- what is turned away has a number and a place
+-- the number of what is turned away: 1 a table, 3 a text
 abbrev pub fault-number : Fault → ℕ
 fault-number (Table why) = number why
 fault-number (Text line) = 3
 
+-- its place: the table's, or the line
 abbrev pub fault-place : Fault → ℕ
 fault-place (Table why) = place why
 fault-place (Text line) = line
 
+-- what is wrong with a table
 abbrev pub refusal-sentence : Refusal → List ℕ
 refusal-sentence Letters = codes "a table has three weights for each of 256 letters"
 refusal-sentence Shape = codes "each pair is five numbers, two letters and three weights"
@@ -47,9 +47,11 @@ refusal-sentence TooMany = codes "a table has at most 200 pairs"
 refusal-sentence (Foreign k) = codes "the letters of a pair are 0 to 255"
 refusal-sentence (Twice k) = codes "these two letters are a pair already"
 
+-- what is wrong
 abbrev pub sentence-of : Fault → List ℕ
 sentence-of (Table why) = refusal-sentence why
 sentence-of (Text line) = codes "a line is 'letter X a b c' or 'pair X Y a b c', with letters up to U+00FF and weights up to 65535"
 
+-- the message: number, place and sentence
 abbrev pub fault-text : Fault → List ℕ
 fault-text f = codes "turned away with " ++ (decimal (fault-number f) ++ (codes " at " ++ (decimal (fault-place f) ++ (codes ": " ++ sentence-of f))))

@@ -5,7 +5,7 @@ ghost use Rattle.std.specs.Options.{Cases};
 ghost use Rattle.texts.specs.Numerals.{hex-digit, hex-of, letter-of, number-of};
 
 // A number up to 65,535.
-pub fn number(word: &[u8]) -> Option<u16>
+pub(crate) fn number(word: &[u8]) -> Option<u16>
     ensures { λ r. ⌜ r ≡ number-of (now (word .entry)) ⌝ }
 {
     if word.is_empty() {
@@ -25,7 +25,7 @@ pub fn number(word: &[u8]) -> Option<u16>
 }
 
 // A letter, written as itself or as `U+00FC`.
-pub fn letter_number(word: &[u8]) -> Option<u16>
+pub(crate) fn letter_number(word: &[u8]) -> Option<u16>
     ensures { λ r. ⌜ r ≡ letter-of (now (word .entry)) ⌝ }
 {
     if word.len() == 1 {

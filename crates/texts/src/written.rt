@@ -2,7 +2,9 @@
 ghost use mathlib.Core.Path.{_≡_};
 ghost use Prim.Native.Nat.{_<_};
 ghost use Rattle.std.specs.declared.option.Option.the-variants.{Some};
-ghost use Rattle.texts.specs.Written.{command-text, hex-glyph, letter-text};
+ghost use Rattle.std.specs.Written.{glyph};
+ghost use mathlib.Core.Bool.{true};
+ghost use Rattle.texts.specs.Written.{command-text, letter-text};
 use crate::line::Command;
 use std::fmt;
 
@@ -29,7 +31,7 @@ pub impl fmt::Display for Letter as LetterDisplay {
 
 fn hex_char(digit: u16) -> char
     requires { ⌜ digit < 16 ⌝ }
-    ensures { λ r. ⌜ r ≡ hex-glyph digit ⌝ }
+    ensures { λ r. ⌜ r ≡ glyph true digit ⌝ }
 {
     if digit < 10 {
         char::from(b'0' + digit as u8)

@@ -1,16 +1,15 @@
 // Checking lent numbers as a table.
-ghost use mathlib.Core.Bool.{_||_, cond};
+ghost use mathlib.Core.Bool.{cond};
 ghost use mathlib.Core.List.{[]};
 ghost use mathlib.Core.Path.{_≡_};
 ghost use Prim.Native.Nat.{ℕ, _*_, _<_, _≤_};
-ghost use lib.Dec.{ltb};
 ghost use lib.ListN.{length, getD};
 ghost use Rattle.std.specs.Options.{isSome};
 ghost use Rattle.std.specs.declared.option.Option.the-variants.{Some, None};
 ghost use Rattle.table.specs.Chain.{heads-of, link-of};
 ghost use Rattle.table.specs.Meaning.{pairs-of, rules-of};
 ghost use Rattle.table.specs.Numbers.{pairs-in};
-ghost use Rattle.table.specs.Refusals.{first-place, foreign, refusal, repeated, shape-refusal};
+ghost use Rattle.table.specs.Refusals.{first-place, foreign, refusal, repeated, shape-refusal, unknown};
 ghost use Rattle.table.specs.Rules.{no-rules, rules-in};
 use crate::chain::Chains;
 use crate::fault::Refusal;
@@ -94,7 +93,7 @@ fn shape_refusal(letters: usize, pairs: usize, how_many: u64) -> Option<Refusal>
 
 // Whether one of a pair's letters is above 255.
 pub(crate) fn is_foreign(first: u16, second: u16) -> bool
-    ensures { λ r. ⌜ r ≡ (ltb 255 first || ltb 255 second) ⌝ }
+    ensures { λ r. ⌜ r ≡ unknown first second ⌝ }
 {
     first as usize >= Table::LETTERS || second as usize >= Table::LETTERS
 }

@@ -1,4 +1,4 @@
-use mathlib.Core.Path.{_≡_, refl, sym, ap, _∙_}
+use mathlib.Core.Path.{sym, ap, _∙_}
 use lib.Chars.{codes}
 use Rattle.texts.specs.Lines.{command}
 use Rattle.texts.proofs.Saying.{same-by, says-letter, says-pair, says-neither}

@@ -1,4 +1,4 @@
-use mathlib.Core.Path.{_≡_, refl, sym, _∙_}
+use mathlib.Core.Path.{sym, _∙_}
 use native.Mathlib.Omega.{arith}
 use Rattle.texts.proofs.Spelling.{one-letter, by-number, not-six, no-sign, no-plus}
 use Rattle.texts.proofs.numeral.letter_number.Needs as need

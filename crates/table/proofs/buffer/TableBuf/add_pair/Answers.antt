@@ -1,17 +1,16 @@
-use mathlib.Core.Path.{_≡_, refl, sym, ap, ap₂, _∙_}
-use mathlib.Core.List.{List, _++_}
-use Prim.Native.Nat.{ℕ, _+_}
+use mathlib.Core.Path.{sym, ap, _∙_}
+use mathlib.Core.List.{_++_}
+use Prim.Native.Nat.{_+_}
 use native.Mathlib.Omega.{arith}
 use Rattle.std.specs.Of.Vec.{vec-items}
 use Rattle.std.specs.Options.{isSome}
-use Rattle.std.specs.declared.option.Option.the-variants.{None}
 use Rattle.std.proofs.shelf.Counted.{length-map-counting}
 use Rattle.table.specs.Buffer.{buffer-rules, pair-refusal}
 use Rattle.table.specs.Numbers.{pair-at, pairs-in}
 use Rattle.table.specs.Refusals.{refusal}
 use Rattle.table.specs.Rules.{rules-in}
 use Rattle.table.proofs.Growing.{rules-more, refusal-more, pairs-more}
-use Rattle.table.proofs.Refusing.{Sound, sound}
+use Rattle.table.proofs.Refusing.{sound}
 use Rattle.table.proofs.buffer.TableBuf.add_pair.Needs as need
 
 pub add-self : need.add-self

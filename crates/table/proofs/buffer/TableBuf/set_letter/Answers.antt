@@ -1,11 +1,11 @@
-use mathlib.Core.Path.{_≡_, refl, sym, ap, _∙_}
-use Prim.Native.Nat.{_+_, _*_, _<_}
+use mathlib.Core.Path.{refl, ap, _∙_}
+use Prim.Native.Nat.{_*_}
 use lib.ListN.{length}
 use native.Mathlib.Omega.{arith}
 use Rattle.std.specs.Options.{isSome}
 use Rattle.std.specs.Of.Vec.{vec-items}
 use Rattle.table.specs.Rules.{rules-in}
-use Rattle.table.proofs.Refusing.{Sound, sound, refusal-letters}
+use Rattle.table.proofs.Refusing.{sound, refusal-letters}
 use Rattle.table.proofs.Setting.{length-written, letter-set}
 use Rattle.table.proofs.buffer.TableBuf.set_letter.Needs as need
 

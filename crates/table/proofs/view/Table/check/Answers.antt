@@ -1,4 +1,4 @@
-use mathlib.Core.Path.{_≡_, refl, sym, _∙_}
+use mathlib.Core.Path.{refl, sym, _∙_}
 use Rattle.table.proofs.Refusing.{by-shape, shape-sound, has-foreign, has-twice, no-refusal}
 use Rattle.table.proofs.view.Table.check.Needs as need
 

@@ -1,4 +1,4 @@
-use mathlib.Core.Path.{_≡_, refl, ap}
+use mathlib.Core.Path.{ap}
 use Rattle.std.specs.declared.option.Option.the-variants.{Some}
 use Rattle.table.specs.Rules.{joins-in, weighs-in}
 use Rattle.table.proofs.view.Table.pair.Needs as need

@@ -1,7 +1,6 @@
-use mathlib.Core.Path.{_≡_, refl, sym, ap, _∙_}
+use mathlib.Core.Path.{sym, ap, _∙_}
 use native.Mathlib.Omega.{arith}
 use Rattle.std.specs.declared.option.Option.the-variants.{Some}
-use Rattle.table.specs.Numbers.{first-at, second-at}
 use Rattle.table.proofs.Places.{nth-pair, nth-none}
 use Rattle.table.proofs.view.Table.pair_at.Needs as need
 

@@ -1,8 +1,7 @@
-use mathlib.Core.Path.{_≡_, refl, sym, ap, ap₂, _∙_}
+use mathlib.Core.Path.{ap, ap₂, _∙_}
 use mathlib.Core.Bool.{cond}
 use mathlib.Core.List.{[]}
 use Rattle.std.specs.Options.{isSome}
-use Rattle.std.specs.declared.option.Option.the-variants.{None}
 use Rattle.table.specs.Numbers.{pairs-in}
 use Rattle.table.specs.Refusals.{refusal}
 use Rattle.table.specs.Rules.{no-rules, rules-in}

@@ -1,15 +1,14 @@
-use mathlib.Core.Path.{_≡_, refl, sym, ap, _∙_}
+use mathlib.Core.Path.{_≡_, sym, ap, _∙_}
 use mathlib.Core.Bool.{true, false}
-use Prim.Native.Nat.{ℕ, _+_, _<_}
+use Prim.Native.Nat.{ℕ}
 use lib.ListN.{length}
 use native.Mathlib.Omega.{arith}
 use borrow.Author.Needs.{needs}
 use Rattle.std.specs.Options.{isSome}
 use Rattle.std.proofs.shelf.Lists.{length-set}
-use Rattle.table.specs.Numbers.{first-at, second-at}
 use Rattle.table.specs.Refusals.{foreign, repeated}
 use Rattle.table.proofs.Firsts.{none-yet, none-more, first-is, none-at}
-use Rattle.table.proofs.Chaining.{Linked, linked-more}
+use Rattle.table.proofs.Chaining.{linked-more}
 use Rattle.table.proofs.Places.{first-known, second-known}
 use Rattle.table.proofs.view.check.chain_all.Needs as need
 

@@ -1,4 +1,4 @@
-use mathlib.Core.Path.{_≡_, refl, sym, ap, _∙_}
+use mathlib.Core.Path.{sym, ap, _∙_}
 use Rattle.std.proofs.shelf.Tests.{eqb-true, eqb-false}
 use Rattle.texts.specs.Lines.{says}
 use Rattle.texts.proofs.Saying.{blank-line, some-line}

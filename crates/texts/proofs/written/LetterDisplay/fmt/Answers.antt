@@ -1,16 +1,16 @@
-use mathlib.Core.Path.{_≡_, refl, sym, ap, subst, _∙_}
-use mathlib.Core.Bool.{Bool, true, false, _&&_, cond}
+use mathlib.Core.Path.{_≡_, ap, subst, _∙_}
+use mathlib.Core.Bool.{true, false, _&&_}
 use mathlib.Core.List.{List, [], _∷_, _++_}
 use Prim.Native.Nat.{ℕ, _/_, _%_, _<_, _≤_}
 use native.Mathlib.Omega.{arith}
 use lib.Chars.{codes}
 use lib.Dec.{leb}
 use lib.Utf8.{encode}
-use Rattle.std.specs.Written.{Put}
+use Rattle.std.specs.Written.{Put, glyph}
 use Rattle.std.proofs.shelf.Ascii.{encode-ascii}
 use Rattle.std.proofs.shelf.Tests.{le-leb, lt-leb, and-left, and-right}
 use Rattle.std.proofs.shelf.Ways.{tells}
-use Rattle.texts.specs.Written.{letter-text, hex-glyph}
+use Rattle.texts.specs.Written.{letter-text}
 use Rattle.texts.proofs.written.LetterDisplay.fmt.Needs as need
 use Rattle.texts.proofs.written.LetterDisplay.fmt.Needs.{else-letter-ge33·by·then-letter-ge33·else-letter-le126, else-letter-ge33·by·else-letter-ge33}
 
@@ -27,15 +27,15 @@ returns-then-letter-le126 g c = λ plain ok.
     (shown (c .args .self .now .0) (c .from-mark .result) (c .if-letter-ge33 .taken) (c .if-letter-le126 .taken) (c .from-mark .ensures))
     (c .write .ensures .shows plain ok)
 
-glyph-small : (d : ℕ) → d < 16 → hex-glyph d < 128
+glyph-small : (d : ℕ) → d < 16 → glyph true d < 128
 glyph-small d l = grind (arith, tells)
 
-digit : (c d : ℕ) → d < 16 → c ≡ hex-glyph d → encode c ≡ hex-glyph d ∷ []
+digit : (c d : ℕ) → d < 16 → c ≡ glyph true d → encode c ≡ glyph true d ∷ []
 digit c d l e = let s = glyph-small d l in encode-ascii c (omega arith) ∙ ap (λ x. x ∷ []) e
 
 by-number :
     (a w x y z : ℕ) → a < 65536 → (leb 33 a && leb a 126) ≡ false →
-    w ≡ hex-glyph (a / 4096) → x ≡ hex-glyph (a / 256 % 16) → y ≡ hex-glyph (a / 16 % 16) → z ≡ hex-glyph (a % 16) →
+    w ≡ glyph true (a / 4096) → x ≡ glyph true (a / 256 % 16) → y ≡ glyph true (a / 16 % 16) → z ≡ glyph true (a % 16) →
     codes "U+" ++ (encode w ++ (encode x ++ (encode y ++ encode z))) ≡ letter-text a
 by-number a w x y z l t e f g h =
     let p = digit w (a / 4096) (omega arith) e in
