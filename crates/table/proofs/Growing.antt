@@ -18,7 +18,7 @@ use Rattle.table.specs.declared.piece.Pair.{Pair}
 use Rattle.table.specs.declared.fault.Refusal.the-variants.{TooMany, Foreign, Twice}
 use Rattle.table.specs.Buffer.{pair-refusal}
 use Rattle.table.specs.Numbers.{weights-at, first-at, second-at, pair-at, pairs-in, numbers-of, place-in}
-use Rattle.table.specs.Refusals.{first-place, foreign, repeated, refusal, at-place}
+use Rattle.table.specs.Refusals.{first-place, foreign, repeated, refusal-of, at-place}
 use Rattle.table.specs.Rules.{same-run, joins-in, weighs-in, rules-in, with-pair, weights-of}
 use Rattle.table.proofs.Places.{place-below}
 use Rattle.table.proofs.Saying.{same-rules, same-weights}
@@ -141,8 +141,8 @@ module _ (ps : List ℕ) (n : ℕ) (p : Pair) (fives : length ps ≡ 5 * n) wher
 
     -- the numbers with the pair behind are turned away just as the pair is
     pub refusal-more : length ls ≡ 768 → first-place (foreign ps) n ≡ None → first-place (repeated ps) n ≡ None →
-        refusal ls (ps ++ numbers-of p) (n + 1) ≡ pair-refusal (rules-in ls ps n) n p
-    unfolding refusal joins-in
+        refusal-of ls (ps ++ numbers-of p) (n + 1) ≡ pair-refusal (rules-in ls ps n) n p
+    unfolding refusal-of joins-in
     refusal-more whole known apart =
         let l = length-append ps (numbers-of p) in
         let f = first-more (foreign (ps ++ numbers-of p)) (foreign ps) n foreign-old known ∙ ap (λ t. cond t (Some n) None) foreign-new in

@@ -12,7 +12,7 @@ use Rattle.std.proofs.shelf.Ways.{tells}
 use Rattle.table.specs.declared.fault.Refusal.the-variants.{Foreign, Twice}
 use Rattle.table.specs.Laws.{Same-pair, Known-pair, Is-table, Exactly-tables, First-foreign, First-twice, Just-pairs, Same-refusal}
 use Rattle.table.specs.Numbers.{first-at, second-at, place-in}
-use Rattle.table.specs.Refusals.{first-place, foreign, repeated, refusal}
+use Rattle.table.specs.Refusals.{first-place, foreign, repeated, refusal-of}
 use Rattle.table.specs.Rules.{joins-in, weighs-in, weights-of}
 use Rattle.table.proofs.Firsts.{none-at}
 use Rattle.table.proofs.Growing.{refusal-more}
@@ -95,12 +95,12 @@ exactly-tables ls ps n = (
       (none-all (repeated ps) n (λ k l. from-once ps k (λ i m. t .apart i k m l))),
 )
 
-foreign-at : (ls ps : List ℕ) (n k : ℕ) → refusal ls ps n ≡ Some (Foreign k) → first-place (foreign ps) n ≡ Some k
+foreign-at : (ls ps : List ℕ) (n k : ℕ) → refusal-of ls ps n ≡ Some (Foreign k) → first-place (foreign ps) n ≡ Some k
 foreign-at ls ps n k =
     by-refusal ls ps n (λ o. o ≡ Some (Foreign k) → first-place (foreign ps) n ≡ Some k)
     (λ e. cc) (λ e. cc) (λ e. cc) (λ j q e. cc) (λ j q r e. cc) (λ s e. cc)
 
-twice-at : (ls ps : List ℕ) (n k : ℕ) → refusal ls ps n ≡ Some (Twice k) → (first-place (foreign ps) n ≡ None) × (first-place (repeated ps) n ≡ Some k)
+twice-at : (ls ps : List ℕ) (n k : ℕ) → refusal-of ls ps n ≡ Some (Twice k) → (first-place (foreign ps) n ≡ None) × (first-place (repeated ps) n ≡ Some k)
 twice-at ls ps n k =
     by-refusal ls ps n (λ o. o ≡ Some (Twice k) → (first-place (foreign ps) n ≡ None) × (first-place (repeated ps) n ≡ Some k))
     (λ e. (cc, cc)) (λ e. (cc, cc)) (λ e. (cc, cc)) (λ j q e. (cc, cc)) (λ j q r e. (q, cc)) (λ s e. (cc, cc))

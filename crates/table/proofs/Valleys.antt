@@ -13,7 +13,7 @@ use Rattle.std.proofs.shelf.Lists.{getD-past}
 use Rattle.std.proofs.shelf.Tests.{cases-lt, lt-ltb, le-ltb, cond-true, cond-false}
 use Rattle.std.proofs.shelf.Ways.{tells}
 use Rattle.table.specs.Numbers.{weights-at, place-in}
-use Rattle.table.specs.Refusals.{refusal, first-place}
+use Rattle.table.specs.Refusals.{refusal-of, first-place}
 use Rattle.table.specs.Rules.{nothing, same-run, joins-in, weighs-in, rules-in}
 use Rattle.table.specs.Valley.{valley, valley-letter, valley-weighs, valley-list, valley-pair, level}
 use Rattle.table.proofs.Saying.{same-rules, same-weights}
@@ -69,6 +69,6 @@ weighs-as (a ∷ (b ∷ (c ∷ run))) = grind (arith, tells)
 pub valley-rules : rules-in numbers valley-pair 1 ≡ valley
 valley-rules = same-rules (rules-in numbers valley-pair 1) valley joins-as weighs-as
 
-pub valley-kept : refusal numbers valley-pair 1 ≡ None
-unfolding refusal first-place place-in
+pub valley-kept : refusal-of numbers valley-pair 1 ≡ None
+unfolding refusal-of first-place place-in
 valley-kept = rw (numbers-end)

@@ -1,5 +1,5 @@
 -- What is promised of tables, in words that do not go by how they are checked. Which of several faults is told is said by
--- `refusal` alone.
+-- `refusal-of` alone.
 use mathlib.Core.Bool.{true}
 use mathlib.Core.Path.{_≡_}
 use mathlib.Core.List.{List, [], _∷_, _++_}
@@ -10,7 +10,7 @@ use Rattle.table.specs.declared.fault.Refusal.the-variants.{Foreign, Twice}
 use Rattle.table.specs.declared.piece.Pair.{Pair}
 use Rattle.table.specs.Buffer.{pair-refusal}
 use Rattle.table.specs.Numbers.{first-at, second-at, weights-at, numbers-of}
-use Rattle.table.specs.Refusals.{refusal}
+use Rattle.table.specs.Refusals.{refusal-of}
 use Rattle.table.specs.Rules.{rules-in}
 
 -- the pairs at places j and k are of the same two letters
@@ -31,18 +31,18 @@ pub record Is-table (ls ps : List ℕ) (n : ℕ) : Type 0 where
 
 -- numbers are taken exactly if they are a table
 abbrev pub Exactly-tables : Type 0
-Exactly-tables = (ls ps : List ℕ) (n : ℕ) → (refusal ls ps n ≡ None → Is-table ls ps n) × (Is-table ls ps n → refusal ls ps n ≡ None)
+Exactly-tables = (ls ps : List ℕ) (n : ℕ) → (refusal-of ls ps n ≡ None → Is-table ls ps n) × (Is-table ls ps n → refusal-of ls ps n ≡ None)
 
 -- the place of a foreign pair is that of the first one
 abbrev pub First-foreign : Type 0
 First-foreign =
-    (ls ps : List ℕ) (n k : ℕ) → refusal ls ps n ≡ Some (Foreign k) →
+    (ls ps : List ℕ) (n k : ℕ) → refusal-of ls ps n ≡ Some (Foreign k) →
     (k < n) × (Known-pair ps k → ⊥) × ((j : ℕ) → j < k → Known-pair ps j)
 
 -- the place of a pair that is there twice is that of the first one that equals an earlier one, where all letters are known
 abbrev pub First-twice : Type 0
 First-twice =
-    (ls ps : List ℕ) (n k : ℕ) → refusal ls ps n ≡ Some (Twice k) →
+    (ls ps : List ℕ) (n k : ℕ) → refusal-of ls ps n ≡ Some (Twice k) →
     (k < n) × ((i : ℕ) × (i < k) × Same-pair ps i k) × ((i j : ℕ) → i < j → j < k → Same-pair ps i j → ⊥) × ((j : ℕ) → j < n → Known-pair ps j)
 
 -- in a table just its pairs are one together, and each weighs what stands behind its letters
@@ -57,7 +57,7 @@ Just-pairs =
 -- a pair that is added meets the refusal that the numbers with it behind would meet
 abbrev pub Same-refusal : Type 0
 Same-refusal =
-    (ls ps : List ℕ) (n : ℕ) (p : Pair) → refusal ls ps n ≡ None → refusal ls (ps ++ numbers-of p) (n + 1) ≡ pair-refusal (rules-in ls ps n) n p
+    (ls ps : List ℕ) (n : ℕ) (p : Pair) → refusal-of ls ps n ≡ None → refusal-of ls (ps ++ numbers-of p) (n + 1) ≡ pair-refusal (rules-in ls ps n) n p
 
 -- all of these
 pub record Laws : Type 0 where

@@ -12,20 +12,20 @@ use Rattle.table.specs.declared.fault.Refusal.the-variants.{Letters, Shape, To
 use Rattle.table.specs.Numbers.{first-at, second-at, place-in}
 
 -- every fault of a table has the number 1
-abbrev pub number : Refusal → ℕ
-number Letters = 1
-number Shape = 1
-number TooMany = 1
-number (Foreign k) = 1
-number (Twice k) = 1
+abbrev pub refusal-number : Refusal → ℕ
+refusal-number Letters = 1
+refusal-number Shape = 1
+refusal-number TooMany = 1
+refusal-number (Foreign k) = 1
+refusal-number (Twice k) = 1
 
 -- the pair at fault, counted from 0; else 0
-abbrev pub place : Refusal → ℕ
-place Letters = 0
-place Shape = 0
-place TooMany = 0
-place (Foreign k) = k
-place (Twice k) = k
+abbrev pub refusal-place : Refusal → ℕ
+refusal-place Letters = 0
+refusal-place Shape = 0
+refusal-place TooMany = 0
+refusal-place (Foreign k) = k
+refusal-place (Twice k) = k
 
 -- the first place below n that passes the test
 unfoldable pub first-place : (ℕ → Bool) → (n : ℕ) → Option ℕ
@@ -57,8 +57,8 @@ shape-refusal l p n =
     (cond (ltb 200 n) (Some TooMany) None))
 
 -- the refusal of a table's numbers, the first in this order; None where they are a table
-unfoldable pub refusal : (letters pairs : List ℕ) → (n : ℕ) → Option Refusal
-refusal ls ps n =
+unfoldable pub refusal-of : (letters pairs : List ℕ) → (n : ℕ) → Option Refusal
+refusal-of ls ps n =
     orOther (shape-refusal (length ls) (length ps) n)
     (at-place Foreign (first-place (foreign ps) n)
     (at-place Twice (first-place (repeated ps) n) None))

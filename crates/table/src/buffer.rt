@@ -3,7 +3,7 @@ ghost use mathlib.Core.Bool.{false};
 ghost use mathlib.Core.Path.{_≡_};
 ghost use Rattle.std.specs.Of.Vec.{vec-items};
 ghost use Rattle.std.specs.Options.{isSome};
-ghost use Rattle.table.specs.Refusals.{refusal};
+ghost use Rattle.table.specs.Refusals.{refusal-of};
 
 mod fill;
 
@@ -13,5 +13,5 @@ pub struct TableBuf {
     letters: Vec<u16>,
     pairs: Vec<u16>,
     count: usize,
-    ghost sound: { isSome (refusal (vec-items letters) (vec-items pairs) count) ≡ false },
+    ghost sound: { isSome (refusal-of (vec-items letters) (vec-items pairs) count) ≡ false },
 }

@@ -1,6 +1,6 @@
 // Why numbers are turned away.
 ghost use mathlib.Core.Path.{_≡_};
-ghost use Rattle.table.specs.Refusals.{number, place};
+ghost use Rattle.table.specs.Refusals.{refusal-number, refusal-place};
 ghost use Rattle.table.specs.declared.fault.AddError.the-variants.{NoMemory};
 use std::alloc::AllocError;
 
@@ -21,14 +21,14 @@ pub enum Refusal {
 impl Refusal {
     // The number that is reported: 1 for every fault of a table.
     pub fn number(self) -> u64
-        ensures { λ r. ⌜ r ≡ number self ⌝ }
+        ensures { λ r. ⌜ r ≡ refusal-number self ⌝ }
     {
         1
     }
 
     // The pair at fault, counted from 0; else 0.
     pub fn place(self) -> usize
-        ensures { λ r. ⌜ r ≡ place self ⌝ }
+        ensures { λ r. ⌜ r ≡ refusal-place self ⌝ }
     {
         match self {
             Refusal::Letters | Refusal::Shape | Refusal::TooMany => 0,

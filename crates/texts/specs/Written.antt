@@ -8,7 +8,7 @@ use Rattle.std.specs.Written.{decimal, glyph}
 use Rattle.table.specs.declared.fault.Refusal.{Refusal}
 use Rattle.table.specs.declared.fault.Refusal.the-variants.{Letters, Shape, TooMany, Foreign, Twice}
 use Rattle.table.specs.declared.piece.Weights.{Weights}
-use Rattle.table.specs.Refusals.{number, place}
+use Rattle.table.specs.Refusals.{refusal-number, refusal-place}
 use Rattle.texts.specs.declared.fault.Fault.{Fault}
 use Rattle.texts.specs.declared.fault.Fault.the-variants.{Table, Text}
 use Rattle.texts.specs.declared.line.Command.{Command}
@@ -31,12 +31,12 @@ command-text (AddPair p) = codes "pair " ++ (letter-text (p .first) ++ (codes " 
 
 -- the number of what is turned away: 1 a table, 3 a text
 abbrev pub fault-number : Fault → ℕ
-fault-number (Table why) = number why
+fault-number (Table why) = refusal-number why
 fault-number (Text line) = 3
 
 -- its place: the table's, or the line
 abbrev pub fault-place : Fault → ℕ
-fault-place (Table why) = place why
+fault-place (Table why) = refusal-place why
 fault-place (Text line) = line
 
 -- what is wrong with a table

@@ -1,4 +1,8 @@
-// Lines of text read into what they say.
+// Lines of text read into what they say, and what is said written.
+//
+// A text is cut into lines and a line into words (part); words are letters and numbers (numeral); a line says a `Command`,
+// nothing, or cannot be read (line). Commands are written as the lines that say them (written), and what is turned away
+// as a message with its number and place (fault).
 mod fault;
 mod line;
 mod numeral;

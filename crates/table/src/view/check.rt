@@ -9,7 +9,7 @@ ghost use Rattle.std.specs.declared.option.Option.the-variants.{Some, None};
 ghost use Rattle.table.specs.Chain.{heads-of, link-of};
 ghost use Rattle.table.specs.Meaning.{pairs-of, rules-of};
 ghost use Rattle.table.specs.Numbers.{pairs-in};
-ghost use Rattle.table.specs.Refusals.{first-place, foreign, refusal, repeated, shape-refusal, unknown};
+ghost use Rattle.table.specs.Refusals.{first-place, foreign, refusal-of, repeated, shape-refusal, unknown};
 ghost use Rattle.table.specs.Rules.{no-rules, rules-in};
 use crate::chain::Chains;
 use crate::fault::Refusal;
@@ -22,7 +22,7 @@ impl<'a> Table<'a> {
     // Lent numbers as a table: three weights for each of the 256 letters, and five numbers for each of `how_many`
     // pairs, two letters and their three weights.
     pub fn check(letters: &'a [u16], pairs: &'a [u16], how_many: u64) -> Checked<'a>
-        ensures refusal { λ c. ⌜ c .refusal ≡ refusal (now (letters .entry)) (now (pairs .entry)) «how_many» ⌝ }
+        ensures refusal { λ c. ⌜ c .refusal ≡ refusal-of (now (letters .entry)) (now (pairs .entry)) «how_many» ⌝ }
         ensures rules { λ c. ⌜ rules-of (c .table) ≡ cond (isSome (c .refusal)) no-rules (rules-in (now (letters .entry)) (now (pairs .entry)) «how_many») ⌝ }
         ensures pairs { λ c. ⌜ pairs-of (c .table) ≡ cond (isSome (c .refusal)) [] (pairs-in (now (pairs .entry)) «how_many») ⌝ }
     {

@@ -7,7 +7,7 @@ use Rattle.std.specs.Options.{isSome}
 use Rattle.std.proofs.shelf.Counted.{length-map-counting}
 use Rattle.table.specs.Buffer.{buffer-rules, pair-refusal}
 use Rattle.table.specs.Numbers.{pair-at, pairs-in}
-use Rattle.table.specs.Refusals.{refusal}
+use Rattle.table.specs.Refusals.{refusal-of}
 use Rattle.table.specs.Rules.{rules-in}
 use Rattle.table.proofs.Growing.{rules-more, refusal-more, pairs-more}
 use Rattle.table.proofs.Refusing.{sound}
@@ -25,7 +25,7 @@ ghost-self-2 c =
     let k = ap (λ k. pair-refusal (buffer-rules b) k (c .args .pair)) (length-map-counting (pair-at ps) 0 (b .count)) in
     let n = refusal-more ps (b .count) (c .args .pair) (s .fives) ls (s .whole) (s .known) (s .apart) in
     let i = c .in-Continue-extend-from-slice .ensures tt .items ∙ ap (λ xs. ps ++ xs) (c .pair-numbers .ensures) in
-    (ap (λ qs. isSome (refusal ls qs (b .count + 1))) i ∙ ap isSome (n ∙ sym k ∙ sym (c .in-rest .ensures tt)), tt)
+    (ap (λ qs. isSome (refusal-of ls qs (b .count + 1))) i ∙ ap isSome (n ∙ sym k ∙ sym (c .in-rest .ensures tt)), tt)
 
 pub returns : need.returns
 returns c =

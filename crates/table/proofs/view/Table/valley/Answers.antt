@@ -3,7 +3,7 @@ use mathlib.Core.Bool.{cond}
 use mathlib.Core.List.{[]}
 use Rattle.std.specs.Options.{isSome}
 use Rattle.table.specs.Numbers.{pairs-in}
-use Rattle.table.specs.Refusals.{refusal}
+use Rattle.table.specs.Refusals.{refusal-of}
 use Rattle.table.specs.Rules.{no-rules, rules-in}
 use Rattle.table.proofs.Valleys.{numbers, valley-rules, valley-kept}
 use Rattle.table.proofs.view.Table.valley.Needs as need
@@ -13,7 +13,7 @@ unfolding numbers
 returns c =
     let l = c .valley-letters .ensures in
     let p = c .valley-pairs .ensures in
-    let n = c .check .ensures .refusal ∙ (ap₂ (λ ls ps. refusal ls ps 1) l p ∙ valley-kept) in
+    let n = c .check .ensures .refusal ∙ (ap₂ (λ ls ps. refusal-of ls ps 1) l p ∙ valley-kept) in
     record {
       rules =
           c .check .ensures .rules ∙ ap (λ o. cond (isSome o) no-rules (rules-in (c .valley-letters .result .now) (c .valley-pairs .result .now) 1)) n
