@@ -16,18 +16,18 @@ use Rattle.texts.specs.Numerals.{letter-of, number-of}
 use Rattle.texts.specs.Parts.{words}
 
 -- three weights, where all are numbers
-abbrev pub weights : Option ℕ → Option ℕ → Option ℕ → Option Weights
-weights None b c = None
-weights (Some p) None c = None
-weights (Some p) (Some s) None = None
-weights (Some p) (Some s) (Some t) = Some (record { primary = p; secondary = s; tertiary = t })
+abbrev pub weights-from : Option ℕ → Option ℕ → Option ℕ → Option Weights
+weights-from None b c = None
+weights-from (Some p) None c = None
+weights-from (Some p) (Some s) None = None
+weights-from (Some p) (Some s) (Some t) = Some (record { primary = p; secondary = s; tertiary = t })
 
 -- three numbers, and nothing behind
 abbrev pub three-weights : List (List ℕ) → Option Weights
 three-weights [] = None
 three-weights (a ∷ []) = None
 three-weights (a ∷ (b ∷ [])) = None
-three-weights (a ∷ (b ∷ (c ∷ []))) = weights (number-of a) (number-of b) (number-of c)
+three-weights (a ∷ (b ∷ (c ∷ []))) = weights-from (number-of a) (number-of b) (number-of c)
 three-weights (a ∷ (b ∷ (c ∷ (d ∷ ws)))) = None
 
 -- a letter's weights, where the letter is one of a table's 256
