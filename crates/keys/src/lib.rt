@@ -1,0 +1,33 @@
+// Names as rows of weights, and their sort keys.
+mod entry;
+mod fault;
+mod laws;
+mod level;
+mod numbers;
+mod row;
+mod sort_key;
+
+pub use entry::Done;
+pub use entry::DoneDebug;
+pub use entry::DonePartialEq;
+pub use entry::make_key;
+pub use fault::KeyError;
+pub use fault::KeyErrorDebug;
+pub use fault::KeyErrorFromAlloc;
+pub use fault::KeyErrorPartialEq;
+pub use fault::NameRefusal;
+pub use fault::NameRefusalDebug;
+pub use fault::NameRefusalPartialEq;
+pub use fault::Short;
+pub use fault::ShortDebug;
+pub use fault::ShortPartialEq;
+pub use laws::key_laws;
+pub use level::Level;
+pub use level::LevelDebug;
+pub use level::LevelPartialEq;
+pub use numbers::KeyNumbers;
+pub use numbers::KeyNumbersIterator;
+pub use row::Row;
+pub use row::RowIterator;
+pub use sort_key::SortKeys;
+pub use sort_key::TableSortKeys;
