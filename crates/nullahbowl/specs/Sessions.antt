@@ -3,6 +3,10 @@ use mathlib.Core.Bool.{true, false, cond}
 use mathlib.Core.Path.{_≡_}
 use mathlib.Core.List.{List, []}
 use Prim.Native.Nat.{ℕ}
+use Rattle.keys.specs.Refusals.{name-refusal}
+use Rattle.keys.specs.Rows.{key}
+use Rattle.std.specs.declared.option.Option.{Option}
+use Rattle.std.specs.declared.option.Option.the-variants.{Some, None}
 use Rattle.std.specs.declared.result.Result.{Result}
 use Rattle.std.specs.declared.result.Result.the-variants.{Ok, Err}
 use Rattle.table.specs.declared.fault.AddError.the-variants as add
@@ -10,10 +14,9 @@ use Rattle.table.specs.declared.piece.Pair.{Pair}
 use Rattle.table.specs.Buffer.{Added, buffer-pairs, buffer-rules}
 use Rattle.table.specs.Rules.{Rules, no-rules, with-letter}
 use Rattle.table.specs.Valley.{valley, valley-pairs}
-use Rattle.texts.specs.declared.fault.Fault.the-variants.{Table, Text}
+use Rattle.texts.specs.declared.fault.Fault.the-variants.{Table, Name, Text}
 use Rattle.texts.specs.declared.line.Command.the-variants.{SetLetter, AddPair}
-use Rattle.texts.specs.declared.line.Line.{Line}
-use Rattle.texts.specs.declared.line.Line.the-variants.{Blank, Says, Unreadable}
+use Rattle.texts.specs.Lines.{Meaning, asks-key, blank, says, unreadable}
 use Rattle.nullahbowl.specs.declared.session.Session.{Session}
 use Rattle.nullahbowl.specs.declared.session.TakeError.{TakeError}
 use Rattle.nullahbowl.specs.declared.session.TakeError.the-variants.{Refused, NoMemory}
@@ -26,12 +29,23 @@ session-rules s = cond (s .own) (buffer-rules (s .table)) valley
 abbrev pub session-pairs : Session → List Pair
 session-pairs s = cond (s .own) (buffer-pairs (s .table)) valley-pairs
 
--- a pair is added as the table says
-abbrev pub Pair-taken : Session → Pair → Result Unit TakeError → Session → Type 0
-Pair-taken s p (Ok x) t = Added (s .table) p (Ok x) (t .table) × (t .own ≡ true)
+-- a pair is added as the table says, and nothing is asked for
+abbrev pub Pair-taken : {V : Type 0} → Session → Pair → Result (Option V) TakeError → Session → Type 0
+Pair-taken s p (Ok None) t = Added (s .table) p (Ok tt) (t .table) × (t .own ≡ true)
+Pair-taken s p (Ok (Some v)) t = ⊥
 Pair-taken s p (Err (Refused (Table why))) t = Added (s .table) p (Err (add.Refused why)) (t .table) × (t .own ≡ s .own)
+Pair-taken s p (Err (Refused (Name why))) t = ⊥
 Pair-taken s p (Err (Refused (Text k))) t = ⊥
 Pair-taken s p (Err NoMemory) t = Added (s .table) p (Err add.NoMemory) (t .table) × (t .own ≡ s .own)
+
+-- a name's key, in memory whose items are the key, or why it was not made
+abbrev pub Key-answered : {V : Type 0} → Rules → List ℕ → (V → List ℕ) → Result (Option V) TakeError → Type 0
+Key-answered rules n items (Ok None) = ⊥
+Key-answered rules n items (Ok (Some v)) = (name-refusal n ≡ None) × (items v ≡ key rules n)
+Key-answered rules n items (Err (Refused (Table why))) = ⊥
+Key-answered rules n items (Err (Refused (Name why))) = name-refusal n ≡ Some why
+Key-answered rules n items (Err (Refused (Text k))) = ⊥
+Key-answered rules n items (Err NoMemory) = name-refusal n ≡ None
 
 -- nothing has been taken yet
 pub record Fresh (s : Session) : Type 0 where
@@ -39,12 +53,13 @@ pub record Fresh (s : Session) : Type 0 where
   pub rules : buffer-rules (s .table) ≡ no-rules
   pub pairs : buffer-pairs (s .table) ≡ []
 
--- the line at place k is taken; what is turned away changes nothing
-abbrev pub Taken : Session → Line → (k : ℕ) → Result Unit TakeError → Session → Type 0
-Taken s Blank k r t = (r ≡ Ok tt) × (t ≡ s)
-Taken s Unreadable k r t = (r ≡ Err (Refused (Text k))) × (t ≡ s)
-Taken s (Says (SetLetter a w)) k r t =
-    (r ≡ Ok tt) × (t .own ≡ true)
+-- the line at place k is taken, and what it asks for is answered; what is turned away changes nothing
+abbrev pub Taken : {V : Type 0} → Session → Meaning → (k : ℕ) → (V → List ℕ) → Result (Option V) TakeError → Session → Type 0
+Taken s blank k items r t = (r ≡ Ok None) × (t ≡ s)
+Taken s unreadable k items r t = (r ≡ Err (Refused (Text k))) × (t ≡ s)
+Taken s (asks-key n) k items r t = Key-answered (session-rules s) n items r × (t ≡ s)
+Taken s (says (SetLetter a w)) k items r t =
+    (r ≡ Ok None) × (t .own ≡ true)
     × (buffer-rules (t .table) ≡ with-letter (buffer-rules (s .table)) a w)
     × (buffer-pairs (t .table) ≡ buffer-pairs (s .table))
-Taken s (Says (AddPair p)) k r t = Pair-taken s p r t
+Taken s (says (AddPair p)) k items r t = Pair-taken s p r t

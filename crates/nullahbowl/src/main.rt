@@ -1,4 +1,7 @@
-// Reads a table of weights, line after line, and says what it is.
+// Reads a table of weights, line after line, and answers with sort keys, or says what the table is.
+ghost use mathlib.Core.Path.{_≡_};
+ghost use Prim.Native.Nat.{_+_, _-_, _^_, min};
+
 mod session;
 
 use session::Session;
@@ -14,10 +17,12 @@ use table::Table;
 use texts::Command;
 use texts::CommandDisplay;
 use texts::FaultDisplay;
+use texts::Numbers;
+use texts::NumbersDisplay;
 use texts::first_part;
 
 const HELP: &str =
-    "usage: nullahbowl [FILE ..]\n\nReads 'letter X a b c' and 'pair X Y a b c' lines from the files, or from standard input where none is named or\nthe name is -, and writes the table that they make. What is turned away is said on standard error.\n";
+    "usage: nullahbowl [FILE ..]\n\nReads lines from the files, or from standard input where none is named or the name is -:\n\n  letter X a b c     the letter X weighs a, b and c\n  pair X Y a b c     the letters X and Y are one together, and weigh a, b and c\n  key X              writes the sort key of the name X\n\nWhere no key is asked for, writes the table that the lines make. What is turned away is said on standard error.\n";
 
 fn main(rt: LibcRuntime) -> Result<(), AnyError> {
     let faults = rt.report(run(&rt))?;
@@ -34,17 +39,22 @@ fn run(rt: &LibcRuntime) -> Result<usize, AnyError> {
         return Ok(0);
     }
     let mut session = Session::new(rt.alloc())?;
-    let mut faults = 0usize;
+    let mut done = Done {
+        faults: 0,
+        answers: 0,
+    };
     let mut named = false;
     for name in env::args(rt)?.skip(1) {
         named = true;
-        faults = faults.saturating_add(read_named(rt, &mut session, name.as_str())?);
+        done = done.and(read_named(rt, &mut session, name.as_str())?);
     }
     if !named {
-        faults = read_named(rt, &mut session, "-")?;
+        done = read_named(rt, &mut session, "-")?;
     }
-    write_table(rt, &session.table())?;
-    Ok(faults)
+    if done.answers == 0 {
+        write_table(rt, &session.table())?;
+    }
+    Ok(done.faults)
 }
 
 fn asks_help(rt: &LibcRuntime) -> Result<bool, AnyError> {
@@ -56,13 +66,35 @@ fn asks_help(rt: &LibcRuntime) -> Result<bool, AnyError> {
     Ok(false)
 }
 
-// Reads a file, and answers how much of it was turned away.
-fn read_named(rt: &LibcRuntime, session: &mut Session, name: &str) -> Result<usize, AnyError> {
+// How much was turned away, and how much was answered.
+#[derive(Clone, Copy)]
+struct Done {
+    faults: usize,
+    answers: usize,
+}
+
+impl Done {
+    // What was done before and behind.
+    fn and(self, more: Done) -> Done
+        ensures { λ r. ⌜ (r .faults ≡ min (self .faults + more .faults) (2 ^ 64 - 1)) × (r .answers ≡ min (self .answers + more .answers) (2 ^ 64 - 1)) ⌝ }
+    {
+        Done {
+            faults: self.faults.saturating_add(more.faults),
+            answers: self.answers.saturating_add(more.answers),
+        }
+    }
+}
+
+// Reads a file and answers what it asks for.
+fn read_named(rt: &LibcRuntime, session: &mut Session, name: &str) -> Result<Done, AnyError> {
     match read_bytes(rt, name) {
         Ok(text) => read_text(rt, session, name, text.as_slice()),
         Err(why) => {
             eprintln!(rt, "{name}: {why}")?;
-            Ok(1)
+            Ok(Done {
+                faults: 1,
+                answers: 0,
+            })
         }
     }
 }
@@ -77,31 +109,44 @@ fn read_bytes(rt: &LibcRuntime, name: &str) -> io::Result<Vec<u8>> {
     fs::read(rt, name)
 }
 
-// Takes the lines of a text, and says which were turned away and why.
+// Takes the lines of a text, writes what they ask for, and says which were turned away and why.
 fn read_text(
     rt: &LibcRuntime,
     session: &mut Session,
     name: &str,
     text: &[u8],
-) -> Result<usize, AnyError> {
-    let mut faults = 0usize;
+) -> Result<Done, AnyError> {
+    let mut out = BufWriter::new(rt.stdout());
+    let mut done = Done {
+        faults: 0,
+        answers: 0,
+    };
     let mut place = 0usize;
     let mut rest = Some(text);
     while let Some(left) = rest {
         let cut = first_part(left, b'\n');
-        match session.take(cut.part, place) {
-            Ok(()) => {}
+        match session.take(rt.alloc(), cut.part, place) {
+            Ok(None) => {}
+            Ok(Some(key)) => {
+                let numbers = Numbers(key.as_slice());
+                writeln!(out, "{numbers}")?;
+                done.answers += 1;
+            }
             Err(TakeError::Refused(fault)) => {
                 let line = place + 1;
                 eprintln!(rt, "{name}:{line}: {fault}")?;
-                faults += 1;
+                done.faults += 1;
             }
-            Err(TakeError::NoMemory) => return Err("there is not enough memory".into()),
+            Err(TakeError::NoMemory) => {
+                out.flush()?;
+                return Err("there is not enough memory".into());
+            }
         }
         rest = cut.rest;
         place += 1;
     }
-    Ok(faults)
+    out.flush()?;
+    Ok(done)
 }
 
 // Writes a table as the lines that would make it, and how much it holds.

@@ -1,5 +1,5 @@
 -- A text cut at its first mark.
-use mathlib.Core.Path.{_≡_, refl}
+use mathlib.Core.Path.{_≡_, refl, sym}
 use mathlib.Core.Bool.{Bool, true, false, cond}
 use mathlib.Core.List.{List, [], _∷_}
 use Prim.Native.Nat.{ℕ, zero, suc, _+_, _<_, _≤_}
@@ -7,8 +7,11 @@ use native.Mathlib.Numerals.{add-one}
 use native.Mathlib.Omega.{arith}
 use lib.Dec.{eqb}
 use lib.ListN.{length, getD, take, drop}
+use Rattle.std.specs.declared.option.Option.the-variants.{Some, None}
+use Rattle.std.proofs.shelf.Lists.{drop-all, drop-more}
 use Rattle.std.proofs.shelf.Tests.{eq-eqb, ne-eqb}
-use Rattle.texts.specs.Parts.{led, parts}
+use Rattle.std.proofs.shelf.Ways.{tells}
+use Rattle.texts.specs.Parts.{behind-word, led, parts}
 
 module _ (m : ℕ) where
   pub cut-at : (xs : List ℕ) (i : ℕ) → i < length xs → ((k : ℕ) → k < i → getD xs k 0 ≡ m → ⊥) → getD xs i 0 ≡ m → parts m xs ≡ take i xs ∷ parts m (drop (i + 1) xs)
@@ -50,3 +53,34 @@ parts-most m (x ∷ xs) = go (eqb x m) (parts-some m xs) (parts-most m xs)
     go : (b : Bool) → 0 < length (parts m xs) → length (parts m xs) ≤ length xs + 1 → length (cond b ([] ∷ parts m xs) (led x (parts m xs))) ≤ suc (length xs) + 1
     go true l h = omega arith
     go false l h = let e = length-led x (parts m xs) l in omega arith
+
+-- a line beside a word, letter by letter
+pub behind-short : (ws xs : List ℕ) → length xs < length ws → behind-word ws xs ≡ None
+unfolding behind-word
+behind-short [] xs h = absurd (omega arith)
+behind-short (w ∷ ws) [] h = refl
+behind-short (w ∷ ws) (x ∷ xs) h = let ih = behind-short ws xs (omega arith) in grind (arith, tells)
+
+module _ (ws xs : List ℕ) (i : ℕ) where
+  module _ (h : i < length ws) (k : i < length xs) where
+    pub behind-more : getD xs i 0 ≡ getD ws i 0 → behind-word (drop i ws) (drop i xs) ≡ behind-word (drop (i + 1) ws) (drop (i + 1) xs)
+    unfolding behind-word
+    behind-more e = rw (drop-more ws i 0 h, drop-more xs i 0 k, eq-eqb (getD ws i 0) (getD xs i 0) (sym e))
+
+    pub behind-other : (getD xs i 0 ≡ getD ws i 0 → ⊥) → behind-word (drop i ws) (drop i xs) ≡ None
+    unfolding behind-word
+    behind-other n = rw (drop-more ws i 0 h, drop-more xs i 0 k, ne-eqb (getD ws i 0) (getD xs i 0) (λ e. n (sym e)))
+
+  module _ (h : length ws ≤ i) where
+    pub behind-alone : length xs ≤ i → behind-word (drop i ws) (drop i xs) ≡ Some []
+    unfolding behind-word
+    behind-alone k = rw (drop-all i ws h, drop-all i xs k)
+
+    module _ (k : i < length xs) where
+      pub behind-space : getD xs i 0 ≡ 32 → behind-word (drop i ws) (drop i xs) ≡ Some (drop (i + 1) xs)
+      unfolding behind-word
+      behind-space e = rw (drop-all i ws h, drop-more xs i 0 k, eq-eqb (getD xs i 0) 32 e)
+
+      pub behind-longer : (getD xs i 0 ≡ 32 → ⊥) → behind-word (drop i ws) (drop i xs) ≡ None
+      unfolding behind-word
+      behind-longer n = rw (drop-all i ws h, drop-more xs i 0 k, ne-eqb (getD xs i 0) 32 n)

@@ -15,17 +15,16 @@ use Rattle.std.specs.shelf.Text.{sameBytes}
 use Rattle.std.proofs.shelf.Equals.{matches-decides, sameBytes-decides}
 use Rattle.std.proofs.shelf.Ways.{same-from-decides}
 use Rattle.std.proofs.shelf.Tests.{true≢false}
-use Rattle.texts.specs.declared.line.Line.the-variants.{Blank}
-use Rattle.texts.specs.Lines.{command, says, letter-line, line-of, pair-line, three-weights}
-use Rattle.texts.specs.Parts.{words, words-left}
+use Rattle.texts.specs.Lines.{asked, blank, command, letter-line, line-of, pair-line, three-weights}
+use Rattle.texts.specs.Parts.{behind-word, words, words-left}
 use Rattle.texts.proofs.Cutting.{parts-some}
 
-pub blank-line : (xs : List ℕ) → length xs ≡ 0 → line-of xs ≡ Blank
+pub blank-line : (xs : List ℕ) → length xs ≡ 0 → line-of xs ≡ blank
 unfolding line-of
 blank-line [] e = refl
 blank-line (x ∷ xs) e = absurd (omega arith)
 
-pub some-line : (xs : List ℕ) → (length xs ≡ 0 → ⊥) → line-of xs ≡ says (command (words xs))
+pub some-line : (xs : List ℕ) → (length xs ≡ 0 → ⊥) → line-of xs ≡ asked (behind-word (codes "key") xs) (command (words xs))
 unfolding line-of
 some-line [] e = absurd (e refl)
 some-line (x ∷ xs) e = refl

@@ -2,6 +2,7 @@
 use mathlib.Core.Bool.{cond}
 use mathlib.Core.List.{List, [], _∷_}
 use Prim.Native.Nat.{ℕ}
+use denote.Ref.{now}
 use lib.Chars.{codes}
 use lib.Dec.{ltb}
 use Rattle.std.specs.declared.option.Option.{Option}
@@ -11,9 +12,9 @@ use Rattle.table.specs.declared.piece.Weights.{Weights}
 use Rattle.texts.specs.declared.line.Command.{Command}
 use Rattle.texts.specs.declared.line.Command.the-variants.{SetLetter, AddPair}
 use Rattle.texts.specs.declared.line.Line.{Line}
-use Rattle.texts.specs.declared.line.Line.the-variants.{Blank, Says, Unreadable}
+use Rattle.texts.specs.declared.line.Line.the-variants.{Blank, Says, Key, Unreadable}
 use Rattle.texts.specs.Numerals.{letter-of, number-of}
-use Rattle.texts.specs.Parts.{words}
+use Rattle.texts.specs.Parts.{behind-word, words}
 
 -- three weights, where all are numbers
 abbrev pub weights-from : Option ℕ → Option ℕ → Option ℕ → Option Weights
@@ -59,12 +60,31 @@ abbrev pub command : List (List ℕ) → Option Command
 command [] = None
 command (w ∷ ws) = cond (sameBytes w (codes "letter")) (letter-line ws) (cond (sameBytes w (codes "pair")) (pair-line ws) None)
 
+-- what a line may mean: nothing, a command, a question for the key of a name; or it can't be read
+pub data Meaning : Type 0 where
+  blank : Meaning
+  says : Command → Meaning
+  asks-key : List ℕ → Meaning
+  unreadable : Meaning
+
+-- what a line that was read means
+abbrev pub meaning : Line → Meaning
+meaning Blank = blank
+meaning (Says c) = says c
+meaning (Key n) = asks-key (now n)
+meaning Unreadable = unreadable
+
 -- what is no command can't be read
-abbrev pub says : Option Command → Line
-says None = Unreadable
-says (Some c) = Says c
+abbrev pub said : Option Command → Meaning
+said None = unreadable
+said (Some c) = says c
+
+-- what stands behind the word key is a name, whole; else the line is a command
+abbrev pub asked : Option (List ℕ) → Option Command → Meaning
+asked None c = said c
+asked (Some n) c = asks-key n
 
 -- what a line says
-unfoldable pub line-of : List ℕ → Line
-line-of [] = Blank
-line-of (x ∷ xs) = says (command (words (x ∷ xs)))
+unfoldable pub line-of : List ℕ → Meaning
+line-of [] = blank
+line-of (x ∷ xs) = asked (behind-word (codes "key") (x ∷ xs)) (command (words (x ∷ xs)))

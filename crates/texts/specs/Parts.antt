@@ -33,3 +33,10 @@ words-left = parts-left 32
 -- a line without the carriage return at its end, if it has one
 abbrev pub without-return : List ℕ → List ℕ
 without-return l = cond (eqb (getD l (length l - 1) 0) 13) (take (length l - 1) l) l
+
+-- what stands behind a word and one space at the front of a line; nothing where the line is that word alone
+unfoldable pub behind-word : (word line : List ℕ) → Option (List ℕ)
+behind-word [] [] = Some []
+behind-word [] (x ∷ xs) = cond (eqb x 32) (Some xs) None
+behind-word (w ∷ ws) [] = None
+behind-word (w ∷ ws) (x ∷ xs) = cond (eqb w x) (behind-word ws xs) None

@@ -5,12 +5,15 @@ use Prim.Native.Nat.{ℕ, _/_, _%_}
 use lib.Chars.{codes}
 use lib.Dec.{leb}
 use Rattle.std.specs.Written.{decimal, glyph}
+use Rattle.keys.specs.declared.fault.NameRefusal.{NameRefusal}
+use Rattle.keys.specs.declared.fault.NameRefusal.the-variants.{TooLong}
+use Rattle.keys.specs.Refusals.{name-refusal-number, name-refusal-place}
 use Rattle.table.specs.declared.fault.Refusal.{Refusal}
 use Rattle.table.specs.declared.fault.Refusal.the-variants.{Letters, Shape, TooMany, Foreign, Twice}
 use Rattle.table.specs.declared.piece.Weights.{Weights}
 use Rattle.table.specs.Refusals.{refusal-number, refusal-place}
 use Rattle.texts.specs.declared.fault.Fault.{Fault}
-use Rattle.texts.specs.declared.fault.Fault.the-variants.{Table, Text}
+use Rattle.texts.specs.declared.fault.Fault.the-variants.{Table, Name, Text}
 use Rattle.texts.specs.declared.line.Command.{Command}
 use Rattle.texts.specs.declared.line.Command.the-variants.{SetLetter, AddPair}
 
@@ -29,14 +32,22 @@ abbrev pub command-text : Command → List ℕ
 command-text (SetLetter a w) = codes "letter " ++ (letter-text a ++ (codes " " ++ weights-text w))
 command-text (AddPair p) = codes "pair " ++ (letter-text (p .first) ++ (codes " " ++ (letter-text (p .second) ++ (codes " " ++ weights-text (p .weights)))))
 
--- the number of what is turned away: 1 a table, 3 a text
+-- numbers with one space between
+unfoldable pub numbers-text : List ℕ → List ℕ
+numbers-text [] = []
+numbers-text (x ∷ []) = decimal x
+numbers-text (x ∷ (y ∷ xs)) = decimal x ++ (codes " " ++ numbers-text (y ∷ xs))
+
+-- the number of what is turned away: 1 a table, 2 a name, 3 a text
 abbrev pub fault-number : Fault → ℕ
 fault-number (Table why) = refusal-number why
+fault-number (Name why) = name-refusal-number why
 fault-number (Text line) = 3
 
--- its place: the table's, or the line
+-- its place: the table's, how long the name is, or the line
 abbrev pub fault-place : Fault → ℕ
 fault-place (Table why) = refusal-place why
+fault-place (Name why) = name-refusal-place why
 fault-place (Text line) = line
 
 -- what is wrong with a table
@@ -47,10 +58,15 @@ refusal-sentence TooMany = codes "a table has at most 200 pairs"
 refusal-sentence (Foreign k) = codes "the letters of a pair are 0 to 255"
 refusal-sentence (Twice k) = codes "these two letters are a pair already"
 
+-- what is wrong with a name
+abbrev pub name-sentence : NameRefusal → List ℕ
+name-sentence (TooLong k) = codes "a name has at most 1000 letters"
+
 -- what is wrong
 abbrev pub sentence-of : Fault → List ℕ
 sentence-of (Table why) = refusal-sentence why
-sentence-of (Text line) = codes "a line is 'letter X a b c' or 'pair X Y a b c', with letters up to U+00FF and weights up to 65535"
+sentence-of (Name why) = name-sentence why
+sentence-of (Text line) = codes "a line is 'letter X a b c', 'pair X Y a b c' or 'key X', with letters up to U+00FF and weights up to 65535"
 
 -- the message: number, place and sentence
 abbrev pub fault-text : Fault → List ℕ

@@ -1,7 +1,10 @@
 // Why a line was turned away.
 ghost use mathlib.Core.Path.{_≡_};
 ghost use Rattle.std.specs.declared.option.Option.the-variants.{Some};
-ghost use Rattle.texts.specs.Written.{fault-number, fault-place, fault-text, refusal-sentence, sentence-of};
+ghost use Rattle.texts.specs.Written.{fault-number, fault-place, fault-text, name-sentence, refusal-sentence, sentence-of};
+use keys::NameRefusal;
+use keys::NameRefusalDebug;
+use keys::NameRefusalPartialEq;
 use std::fmt;
 use table::Refusal;
 use table::RefusalDebug;
@@ -11,17 +14,20 @@ use table::RefusalPartialEq;
 pub enum Fault {
     // The table would be none with it.
     Table(Refusal),
+    // It holds something that is no name.
+    Name(NameRefusal),
     // It can't be read: its line, counted from 0.
     Text(usize),
 }
 
 impl Fault {
-    // The number that is reported: 1 a table, 3 a text.
+    // The number that is reported: 1 a table, 2 a name, 3 a text.
     pub fn number(self) -> u64
         ensures { λ r. ⌜ r ≡ fault-number self ⌝ }
     {
         match self {
             Fault::Table(why) => why.number(),
+            Fault::Name(why) => why.number(),
             Fault::Text(_) => 3,
         }
     }
@@ -32,6 +38,7 @@ impl Fault {
     {
         match self {
             Fault::Table(why) => why.place(),
+            Fault::Name(why) => why.place(),
             Fault::Text(line) => line,
         }
     }
@@ -42,8 +49,9 @@ impl Fault {
     {
         match self {
             Fault::Table(why) => refusal_sentence(why),
+            Fault::Name(why) => name_sentence(why),
             Fault::Text(_) =>
-                "a line is 'letter X a b c' or 'pair X Y a b c', with letters up to U+00FF and weights up to 65535",
+                "a line is 'letter X a b c', 'pair X Y a b c' or 'key X', with letters up to U+00FF and weights up to 65535",
         }
     }
 }
@@ -57,6 +65,14 @@ fn refusal_sentence(why: Refusal) -> &'static str
         Refusal::TooMany => "a table has at most 200 pairs",
         Refusal::Foreign(_) => "the letters of a pair are 0 to 255",
         Refusal::Twice(_) => "these two letters are a pair already",
+    }
+}
+
+fn name_sentence(why: NameRefusal) -> &'static str
+    ensures { λ r. ⌜ now r ≡ name-sentence why ⌝ }
+{
+    match why {
+        NameRefusal::TooLong(_) => "a name has at most 1000 letters",
     }
 }
 

@@ -1,11 +1,12 @@
 // What a line says.
 ghost use mathlib.Core.Path.{_≡_};
-ghost use Rattle.texts.specs.Lines.{command, letter-line, line-of, pair-line, three-weights};
+ghost use Rattle.texts.specs.Lines.{command, letter-line, line-of, meaning, pair-line, three-weights};
 ghost use denote.Ref.{now as held};
 ghost use Rattle.std.specs.Options.{mapped};
 ghost use Rattle.texts.specs.Parts.{words, words-left};
 use crate::numeral::letter_number;
 use crate::numeral::number;
+use crate::part::behind_word;
 use crate::part::first_part;
 use table::Pair;
 use table::PairDebug;
@@ -23,21 +24,26 @@ pub enum Command {
 }
 
 #[derive(Clone, Copy, PartialEq, Eq, Debug)]
-pub enum Line {
+pub enum Line<'a> {
     // Nothing stands in it.
     Blank,
     Says(Command),
-    // It is no command.
+    // `key X`: asks for the sort key of a name.
+    Key(&'a [u8]),
+    // It has none of these forms.
     Unreadable,
 }
 
-impl Line {
+impl<'a> Line<'a> {
     // What a line says, without its end.
-    pub fn read(line: &[u8]) -> Line
-        ensures { λ r. ⌜ r ≡ line-of (now (line .entry)) ⌝ }
+    pub fn read(line: &'a [u8]) -> Line<'a>
+        ensures { λ r. ⌜ meaning r ≡ line-of (now (line .entry)) ⌝ }
     {
         if line.is_empty() {
             return Line::Blank;
+        }
+        if let Some(name) = behind_word(line, b"key") {
+            return Line::Key(name);
         }
         match read_command(line) {
             Some(command) => Line::Says(command),

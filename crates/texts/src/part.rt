@@ -3,7 +3,7 @@ ghost use mathlib.Core.List.{_∷_};
 ghost use mathlib.Core.Path.{_≡_};
 ghost use denote.Ref.{now as held};
 ghost use Rattle.std.specs.Options.{mapped};
-ghost use Rattle.texts.specs.Parts.{parts, parts-left, without-return};
+ghost use Rattle.texts.specs.Parts.{behind-word, parts, parts-left, without-return};
 
 #[derive(Clone, Copy)]
 pub struct Cut<'a> {
@@ -39,4 +39,25 @@ pub fn without_return<'a>(line: &'a [u8]) -> &'a [u8]
         return &line[0..line.len() - 1];
     }
     line
+}
+
+// What stands behind a word and one space at the front of a line; nothing where the line is that word alone.
+pub fn behind_word<'a>(line: &'a [u8], word: &[u8]) -> Option<&'a [u8]>
+    ensures { λ r. ⌜ mapped held r ≡ behind-word (now (word .entry)) (now (line .entry)) ⌝ }
+{
+    if line.len() < word.len() {
+        return None;
+    }
+    for i in 0..word.len() {
+        if line[i] != word[i] {
+            return None;
+        }
+    }
+    if line.len() == word.len() {
+        return Some(&line[word.len()..line.len()]);
+    }
+    if line[word.len()] != b' ' {
+        return None;
+    }
+    Some(&line[word.len() + 1..line.len()])
 }

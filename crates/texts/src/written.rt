@@ -1,10 +1,11 @@
 // Letters and commands as they are written.
 ghost use mathlib.Core.Path.{_≡_};
 ghost use Prim.Native.Nat.{_<_};
+ghost use denote.Ref.{now as held};
 ghost use Rattle.std.specs.declared.option.Option.the-variants.{Some};
 ghost use Rattle.std.specs.Written.{glyph};
 ghost use mathlib.Core.Bool.{true};
-ghost use Rattle.texts.specs.Written.{command-text, letter-text};
+ghost use Rattle.texts.specs.Written.{command-text, letter-text, numbers-text};
 use crate::line::Command;
 use std::fmt;
 
@@ -58,5 +59,22 @@ pub impl fmt::Display for Command as CommandDisplay {
                 write!(f, "pair {first} {second} {p} {s} {t}")
             }
         }
+    }
+}
+
+// The numbers of a sort key, one space between.
+#[derive(Clone, Copy)]
+pub struct Numbers<'a>(pub &'a [u32]);
+
+pub impl fmt::Display for Numbers<'_> as NumbersDisplay {
+    ghost shown = { λ x. Some (numbers-text (held (x .0))) };
+
+    fn fmt<W: fmt::Write>(&self, f: &mut fmt::Formatter<W>) -> fmt::Result {
+        for i in 0..self.0.len() {
+            let gap = if i == 0 { "" } else { " " };
+            let number = self.0[i];
+            write!(f, "{gap}{number}")?;
+        }
+        Ok(())
     }
 }
