@@ -14,11 +14,11 @@ const ONE: Weights = Weights {
     tertiary: 3,
 };
 
-fn letter(letter: u8, weights: Weights) -> Line {
+fn letter(letter: u8, weights: Weights) -> Line<'static> {
     Line::Says(Command::SetLetter(letter, weights))
 }
 
-fn pair(first: u16, second: u16) -> Line {
+fn pair(first: u16, second: u16) -> Line<'static> {
     Line::Says(Command::AddPair(Pair {
         first,
         second,
@@ -28,7 +28,7 @@ fn pair(first: u16, second: u16) -> Line {
 
 // A line, and what it says.
 #[derive(Clone, Copy)]
-struct Case(&'static [u8], Line);
+struct Case(&'static [u8], Line<'static>);
 
 fn hold(cases: &[Case]) -> Result<(), Fail> {
     for case in cases {
@@ -78,6 +78,26 @@ fn pairs() -> Result<(), Fail> {
             Case(b"pair c h i 1 2 3", Line::Unreadable),
             Case(b"pair c h 1 2", Line::Unreadable),
             Case(b"pair", Line::Unreadable),
+        ],
+    )
+}
+
+// What stands behind the word and one space is the name, as it is.
+#[test]
+fn keys() -> Result<(), Fail> {
+    hold(
+        &[
+            Case(b"key cab", Line::Key(b"cab")),
+            Case(b"key", Line::Key(b"")),
+            Case(b"key ", Line::Key(b"")),
+            Case(b"key  a b ", Line::Key(b" a b ")),
+            Case(b"key letter a 1 2 3", Line::Key(b"letter a 1 2 3")),
+            Case(b"key \x00\xff\r", Line::Key(b"\x00\xff\r")),
+            Case(b"keys", Line::Unreadable),
+            Case(b"ke", Line::Unreadable),
+            Case(b"Key a", Line::Unreadable),
+            Case(b" key a", Line::Unreadable),
+            Case(b"key\ta", Line::Unreadable),
         ],
     )
 }

@@ -1,4 +1,5 @@
 // How commands and messages are written.
+use keys::NameRefusal;
 use std::test::*;
 use table::Pair;
 use table::Refusal;
@@ -7,6 +8,8 @@ use texts::Command;
 use texts::CommandDisplay;
 use texts::Fault;
 use texts::FaultDisplay;
+use texts::Numbers;
+use texts::NumbersDisplay;
 
 const ONE: Weights = Weights {
     primary: 1,
@@ -42,6 +45,16 @@ fn messages(rt: LibcRuntime) -> Result<(), Fail> {
     check(twice.as_str() == "turned away with 1 at 17: these two letters are a pair already")?;
     let many = Fault::Table(Refusal::TooMany).to_string(heap)?;
     check(many.as_str() == "turned away with 1 at 0: a table has at most 200 pairs")?;
+    let long = Fault::Name(NameRefusal::TooLong(1001)).to_string(heap)?;
+    check(long.as_str() == "turned away with 2 at 1001: a name has at most 1000 letters")?;
     check_eq(Fault::Text(0).number(), 3)?;
     check_eq(Fault::Text(9).place(), 9)
+}
+
+#[test]
+fn numbers(rt: LibcRuntime) -> Result<(), Fail> {
+    let heap = rt.alloc();
+    check(Numbers(&[]).to_string(heap)?.as_str() == "")?;
+    check(Numbers(&[0]).to_string(heap)?.as_str() == "0")?;
+    check(Numbers(&[30, 0, 4294967295]).to_string(heap)?.as_str() == "30 0 4294967295")
 }
