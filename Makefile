@@ -1,4 +1,4 @@
-# make demo      prove and build the program, and run it on the example
+# make demo      prove and build the program, and run it on the examples
 # make test      prove everything from nothing, try the must-fail edits, run all tests
 # make install   copy the program to PREFIX/bin
 
@@ -18,6 +18,8 @@ build: kit
 	@log=$$(mktemp); rt check nullahbowl >"$$log" 2>&1 || { tail -n 40 "$$log"; rm -f "$$log"; exit 1; }; rm -f "$$log"
 
 demo: build
+	@echo "$(PROGRAM) examples/keys.txt | paste examples/keys.txt -"
+	@$(PROGRAM) examples/keys.txt | paste examples/keys.txt -
 	@echo "$(PROGRAM) examples/table.txt"
 	@$(PROGRAM) examples/table.txt
 
