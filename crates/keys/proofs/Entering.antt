@@ -1,12 +1,9 @@
 -- Names that are taken, and keys that do not fit.
-use mathlib.Core.Path.{_≡_, refl, sym, ap, _∙_}
-use mathlib.Core.Bool.{Bool, true, false, cond}
+use mathlib.Core.Path.{_≡_, _∙_}
 use mathlib.Core.List.{List}
-use Prim.Native.Nat.{ℕ, _+_, _*_, _≤_, _<_}
+use Prim.Native.Nat.{ℕ, _≤_}
 use native.Mathlib.Omega.{arith}
-use lib.Dec.{ltb}
 use lib.ListN.{length}
-use Rattle.std.specs.Options.{isSome}
 use Rattle.std.specs.declared.option.Option.the-variants.{Some, None}
 use Rattle.std.proofs.shelf.Tests.{le-ltb}
 use Rattle.std.proofs.shelf.Ways.{tells}
@@ -14,7 +11,7 @@ use Rattle.table.specs.Refusals.{refusal-of}
 use Rattle.table.specs.Rules.{rules-in}
 use Rattle.keys.specs.declared.entry.Done.the-variants.{Short}
 use Rattle.keys.specs.Entry.{done-of, fits-in}
-use Rattle.keys.specs.Making.{counted, lacking}
+use Rattle.keys.specs.Making.{saturated, lacking}
 use Rattle.keys.specs.Refusals.{name-refusal}
 use Rattle.keys.specs.Rows.{key}
 use Rattle.keys.proofs.Bounding.{key-few}
@@ -26,7 +23,7 @@ name-kept : (x : List ℕ) → name-refusal x ≡ None → length x ≤ 1000
 name-kept x e = grind (arith, tells)
 
 needs-all : (k room needs : ℕ) → k ≤ 3002 → lacking k room ≡ Some needs → Short needs ≡ fits-in room k
-needs-all k room needs h e = let c : counted k ≡ k = omega arith in grind (arith, tells)
+needs-all k room needs h e = let c : saturated k ≡ k = omega arith in grind (arith, tells)
 
 pub too-short : (ls js : List ℕ) (n : ℕ) (x : List ℕ) (room needs : ℕ) → refusal-of ls js n ≡ None → name-refusal x ≡ None
     → lacking (length (key (rules-in ls js n) x)) room ≡ Some needs → Short needs ≡ done-of ls js n x room

@@ -1,10 +1,11 @@
 -- Reading one piece at a place of a name.
-use mathlib.Core.Path.{_≡_, refl, sym, ap, _∙_}
+use mathlib.Core.Path.{_≡_}
 use mathlib.Core.Bool.{Bool, true, false, cond}
 use mathlib.Core.Logic.{⊎-elim}
 use mathlib.Core.List.{List, [], _∷_}
 use Prim.Native.Nat.{ℕ, _+_, _≤_, _<_}
 use native.Mathlib.Omega.{arith}
+use lib.Dec.{ltb}
 use lib.ListN.{length, getD, drop}
 use Rattle.std.proofs.shelf.Lists.{drop-more, drop-all}
 use Rattle.std.specs.declared.option.Option.the-variants.{Some, None}
@@ -36,30 +37,18 @@ module _ (j : List ℕ → Bool) (n : List ℕ) (i : ℕ) where
       (λ h. rw (drop-more n i 0 l, drop-all (i + 1) n h))
       (cases-lt (i + 1) (length n))
 
-  -- what is read where something is left
-  pub record Next-piece : Type 0 where
-    pub piece : List ℕ
-    pub some : 0 < length piece
-    pub within : i + length piece ≤ length n
-    pub read : pieces j (drop i n) ≡ piece ∷ pieces j (drop (i + length piece) n)
+-- what a table's answer for the next two letters says
+module _ (t : Rules) (n : List ℕ) (i : ℕ) where
+  pub apart : cond (ltb (i + 1) (length n)) (contraction t (getD n i 0 ∷ (getD n (i + 1) 0 ∷ []))) None ≡ None
+      → i + 1 < length n → t .joins (getD n i 0 ∷ (getD n (i + 1) 0 ∷ [])) ≡ false
+  apart e h = grind (arith, tells)
 
-  two-read : i + 1 < length n → (b : Bool) → j (getD n i 0 ∷ (getD n (i + 1) 0 ∷ [])) ≡ b → Next-piece
-  two-read h true e = record { piece = getD n i 0 ∷ (getD n (i + 1) 0 ∷ []); some = omega arith; within = omega arith; read = read-pair h e }
-  two-read h false e = record { piece = getD n i 0 ∷ []; some = omega arith; within = omega arith; read = read-letter (omega arith) (λ k. e) }
+  module _ (v : Weights) (e : cond (ltb (i + 1) (length n)) (contraction t (getD n i 0 ∷ (getD n (i + 1) 0 ∷ []))) None ≡ Some v) where
+    pub both-there : i + 1 < length n
+    both-there = grind (arith, tells)
 
-  pub next-piece : i < length n → Next-piece
-  next-piece l =
-      ⊎-elim
-      (λ h. two-read h (j (getD n i 0 ∷ (getD n (i + 1) 0 ∷ []))) refl)
-      (λ h. record { piece = getD n i 0 ∷ []; some = omega arith; within = omega arith; read = read-letter l (λ k. absurd (omega arith)) })
-      (cases-lt (i + 1) (length n))
+    pub one-joins : t .joins (getD n i 0 ∷ (getD n (i + 1) 0 ∷ [])) ≡ true
+    one-joins = grind (arith, tells)
 
--- what a table's answer for two letters says
-pub one-joins : (t : Rules) (run : List ℕ) (w : Weights) → contraction t run ≡ Some w → t .joins run ≡ true
-one-joins t run w e = grind (arith, tells)
-
-pub one-weighs : (t : Rules) (run : List ℕ) (w : Weights) → contraction t run ≡ Some w → t .weighs run ≡ w
-one-weighs t run w e = grind (arith, tells)
-
-pub apart : (t : Rules) (run : List ℕ) → contraction t run ≡ None → t .joins run ≡ false
-apart t run e = grind (arith, tells)
+    pub one-weighs : t .weighs (getD n i 0 ∷ (getD n (i + 1) 0 ∷ [])) ≡ v
+    one-weighs = grind (arith, tells)

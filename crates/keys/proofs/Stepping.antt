@@ -1,126 +1,67 @@
--- Steps along a row.
-use mathlib.Core.Path.{_≡_, refl, sym, ap, subst, _∙_}
-use mathlib.Core.Bool.{Bool, true, false, cond}
-use mathlib.Core.Logic.{⊎-elim}
-use mathlib.Core.List.{List, [], _∷_, map}
-use Prim.Native.Nat.{ℕ, zero, suc, _+_, _≤_, _<_}
+-- Steps along a row: what one takes, and what is left then.
+use mathlib.Core.Path.{_≡_, sym, ap, subst, _∙_}
+use mathlib.Core.Bool.{cond}
+use mathlib.Core.List.{List, [], _∷_}
+use Prim.Native.Nat.{ℕ, _+_, _≤_, _<_}
 use native.Mathlib.Omega.{arith}
 use denote.Ref.{now}
 use lib.Dec.{eqb}
 use lib.ListN.{length, getD, drop}
-use Rattle.std.proofs.shelf.Tests.{cases-lt, eq-eqb, ne-eqb}
+use Rattle.std.specs.Options.{Cases}
+use Rattle.std.specs.declared.option.Option.{Option}
 use Rattle.std.specs.declared.option.Option.the-variants.{Some, None}
+use Rattle.std.proofs.shelf.Tests.{cond-false, cond-true, eq-eqb, ne-eqb}
+use Rattle.table.specs.declared.piece.Weights.{Weights}
 use Rattle.table.specs.Meaning.{rules-of}
 use Rattle.table.specs.Rules.{Rules}
-use Rattle.keys.specs.declared.level.Level.{Level}
-use Rattle.keys.specs.Pieces.{pieces}
-use Rattle.keys.specs.Rows.{row, counts, on, weight}
 use Rattle.keys.specs.declared.row.Row.{Row}
-use Rattle.keys.specs.Reading.{Step, Rowed, first-counting, moved, row-left, step-at, step-from}
-use Rattle.keys.proofs.Pieces.{read-end, read-pair, read-letter, Next-piece, next-piece}
+use Rattle.keys.specs.Pieces.{pieces}
+use Rattle.keys.specs.Rows.{on, row, weight, without-zeros}
+use Rattle.keys.specs.Reading.{Pair-at, Rowed, moved, next-pair, row-left, some-weight}
+use Rattle.keys.proofs.Pieces.{apart, both-there, one-joins, one-weighs, read-end, read-letter, read-pair}
 
-module _ (w : List ℕ → ℕ) (i : ℕ) (ps : List (List ℕ)) where
-  none-left : ps ≡ [] → first-counting w i ps ≡ record { weight = 0; behind = i }
-  unfolding first-counting
-  none-left e = rw e
+module _ (r : Row) where
+  abbrev rules : Rules
+  rules = rules-of (now (r .table))
 
-  module _ (p : List ℕ) (qs : List (List ℕ)) (x : ℕ) (e : ps ≡ p ∷ qs) (v : x ≡ w p) where
-    passes : x ≡ 0 → first-counting w i ps ≡ first-counting w (i + length p) qs
-    unfolding first-counting
-    passes z = rw (e, eq-eqb (w p) 0 (sym v ∙ z))
+  abbrev name : List ℕ
+  name = now (r .name)
 
-    stops : (x ≡ 0 → ⊥) → first-counting w i ps ≡ record { weight = x; behind = i + length p }
-    unfolding first-counting
-    stops z = rw (e, ne-eqb (w p) 0 (λ q. z (v ∙ q)), v)
+  -- a row to which a piece that weighs x led, read on from place k
+  abbrev led : (x k : ℕ) → List ℕ
+  led x k = cond (eqb x 0) (row-left (moved r k)) (x ∷ row-left (moved r k))
 
-module _ (l : Level) (t : Rules) (n : List ℕ) (i : ℕ) where
-  pub step-end : length n ≤ i → step-from l t n i ≡ record { weight = 0; behind = i }
-  step-end h = none-left (weight l t) i (pieces (t .joins) (drop i n)) (read-end (t .joins) n i h)
+  taken : (x k : ℕ) (p : List ℕ) → pieces (rules .joins) (drop (r .from) name) ≡ p ∷ pieces (rules .joins) (drop k name) → x ≡ weight (r .level) rules p → row-left r ≡ led x k
+  unfolding row without-zeros
+  taken x k p e v = rw (e, sym v)
 
-  module _ (x : ℕ) (h : i < length n) (far : i + 1 < length n → t .joins (getD n i 0 ∷ (getD n (i + 1) 0 ∷ [])) ≡ false)
-      (v : x ≡ weight l t (getD n i 0 ∷ [])) where
-    pub letter-passes : x ≡ 0 → step-from l t n i ≡ step-from l t n (i + 1)
-    letter-passes z =
-        passes (weight l t) i (pieces (t .joins) (drop i n)) (getD n i 0 ∷ []) (pieces (t .joins) (drop (i + 1) n)) x (read-letter (t .joins) n i h far) v z
+  pub at-end : length name ≤ r .from → row-left r ≡ []
+  unfolding row without-zeros
+  at-end h = rw (read-end (rules .joins) name (r .from) h)
 
-    pub letter-stops : (x ≡ 0 → ⊥) → step-from l t n i ≡ record { weight = x; behind = i + 1 }
-    letter-stops z =
-        stops (weight l t) i (pieces (t .joins) (drop i n)) (getD n i 0 ∷ []) (pieces (t .joins) (drop (i + 1) n)) x (read-letter (t .joins) n i h far) v z
+  pub at-letter : (x : ℕ) (w : Weights) → r .from < length name → next-pair r ≡ None → w ≡ rules .weighs (getD name (r .from) 0 ∷ []) → x ≡ on (r .level) w → row-left r ≡ led x (r .from + 1)
+  at-letter x w h none e v =
+      taken x (r .from + 1) (getD name (r .from) 0 ∷ []) (read-letter (rules .joins) name (r .from) h (apart rules name (r .from) none)) (v ∙ ap (on (r .level)) e)
 
-  module _ (x : ℕ) (h : i + 1 < length n) (one : t .joins (getD n i 0 ∷ (getD n (i + 1) 0 ∷ [])) ≡ true)
-      (v : x ≡ weight l t (getD n i 0 ∷ (getD n (i + 1) 0 ∷ []))) where
-    pub pair-passes : x ≡ 0 → step-from l t n i ≡ step-from l t n (i + 2)
-    pair-passes z =
-        passes (weight l t) i (pieces (t .joins) (drop i n)) (getD n i 0 ∷ (getD n (i + 1) 0 ∷ [])) (pieces (t .joins) (drop (i + 2) n)) x
-        (read-pair (t .joins) n i h one) v z
+  pub at-pair : (x : ℕ) → Pair-at r x → row-left r ≡ led x (r .from + 2)
+  at-pair x p =
+      taken x (r .from + 2) (getD name (r .from) 0 ∷ (getD name (r .from + 1) 0 ∷ []))
+      (read-pair (rules .joins) name (r .from) (both-there rules name (r .from) (p .0) (p .1)) (one-joins rules name (r .from) (p .0) (p .1)))
+      (p .2 ∙ ap (on (r .level)) (sym (one-weighs rules name (r .from) (p .0) (p .1))))
 
-    pub pair-stops : (x ≡ 0 → ⊥) → step-from l t n i ≡ record { weight = x; behind = i + 2 }
-    pair-stops z =
-        stops (weight l t) i (pieces (t .joins) (drop i n)) (getD n i 0 ∷ (getD n (i + 1) 0 ∷ [])) (pieces (t .joins) (drop (i + 2) n)) x
-        (read-pair (t .joins) n i h one) v z
+  module _ (x k : ℕ) (e : row-left r ≡ led x k) where
+    -- what counts is handed back
+    pub stops : (x ≡ 0 → ⊥) → x < 65536 → Rowed r (some-weight x) (moved r k)
+    stops z small =
+        let n = ne-eqb x 0 z in
+        subst (λ o. Rowed r o (moved r k)) (sym (cond-false (eqb x 0) None (Some x) n)) (e ∙ cond-false (eqb x 0) _ _ n, small, λ i. moved r k)
 
--- what a step takes from the row
-module _ (l : Level) (t : Rules) (n : List ℕ) where
-  pub record Stepped (i : ℕ) (s : Step) : Type 0 where
-    pub none : s .weight ≡ 0 → row l t (drop i n) ≡ []
-    pub end : s .weight ≡ 0 → row l t (drop (s .behind) n) ≡ []
-    pub some : (s .weight ≡ 0 → ⊥) → row l t (drop i n) ≡ s .weight ∷ row l t (drop (s .behind) n)
+    -- what doesn't is passed over
+    pub passes : x ≡ 0 → (o : Option ℕ) (s : Row) → Rowed (moved r k) o s → Rowed r o s
+    passes z None s w = (e ∙ (cond-true (eqb x 0) _ _ (eq-eqb x 0 z) ∙ w .0), w .1, w .2)
+    passes z (Some y) s w = (e ∙ (cond-true (eqb x 0) _ _ (eq-eqb x 0 z) ∙ w .0), w .1, w .2)
 
-  row-end : (i : ℕ) → length n ≤ i → row l t (drop i n) ≡ []
-  unfolding row counts
-  row-end i h = rw (read-end (t .joins) n i h)
-
-  module _ (i : ℕ) (x : Next-piece (t .joins) n i) where
-    row-passes : weight l t (x .piece) ≡ 0 → row l t (drop i n) ≡ row l t (drop (i + length (x .piece)) n)
-    unfolding row counts
-    row-passes z = rw (x .read, eq-eqb (weight l t (x .piece)) 0 z)
-
-    row-stops : (weight l t (x .piece) ≡ 0 → ⊥) → row l t (drop i n) ≡ weight l t (x .piece) ∷ row l t (drop (i + length (x .piece)) n)
-    unfolding row counts
-    row-stops z = rw (x .read, ne-eqb (weight l t (x .piece)) 0 z)
-
-  at-end : (i : ℕ) → length n ≤ i → Stepped i (step-from l t n i)
-  at-end i h =
-      let r = row-end i h in
-      subst (Stepped i) (sym (step-end l t n i h)) (record { none = λ z. r; end = λ z. r; some = λ z. absurd (z refl) })
-
-  at-piece : (i : ℕ) (x : Next-piece (t .joins) n i) → Stepped (i + length (x .piece)) (step-from l t n (i + length (x .piece))) → Stepped i (step-from l t n i)
-  at-piece i x ih =
-      ⊎-elim
-      (λ h.
-      let z : weight l t (x .piece) ≡ 0 → ⊥ = λ e. absurd (omega arith) in
-      subst (Stepped i) (sym (stops (weight l t) i (pieces (t .joins) (drop i n)) (x .piece) _ _ (x .read) refl z))
-      (record { none = λ e. absurd (z e); end = λ e. absurd (z e); some = λ e. row-stops i x z }))
-      (λ h.
-      let z : weight l t (x .piece) ≡ 0 = omega arith in
-      let r = row-passes i x z in
-      subst (Stepped i) (sym (passes (weight l t) i (pieces (t .joins) (drop i n)) (x .piece) _ _ (x .read) refl z))
-      (record { none = λ e. r ∙ ih .none e; end = ih .end; some = λ e. r ∙ ih .some e }))
-      (cases-lt 0 (weight l t (x .piece)))
-
-  by-fuel : (m i : ℕ) → length n ≤ i + m → Stepped i (step-from l t n i)
-  by-fuel zero i h = at-end i (omega arith)
-  by-fuel (suc m) i h =
-      ⊎-elim
-      (λ k. let x = next-piece (t .joins) n i k in at-piece i x (by-fuel m (i + length (x .piece)) (omega (arith, x .some))))
-      (λ k. at-end i k)
-      (cases-lt i (length n))
-
-  pub stepped : (i : ℕ) → Stepped i (step-from l t n i)
-  stepped i = by-fuel (length n) i (omega arith)
-
--- what a step taken tells of the row
-module _ (r s : Row) (x : ℕ) (w : x ≡ step-at r .weight) (b : s ≡ moved r (step-at r .behind)) where
-  here : Stepped (r .level) (rules-of (now (r .table))) (now (r .name)) (r .from) (step-at r)
-  here = stepped (r .level) (rules-of (now (r .table))) (now (r .name)) (r .from)
-
-  same : s ≡ moved r (s .from)
-  same = b ∙ ap (λ q. moved r (q .from)) (sym b)
-
-  pub rowed-none : x ≡ 0 → Rowed r None s
-  rowed-none z = (here .none (sym w ∙ z), ap row-left b ∙ here .end (sym w ∙ z), same)
-
-  pub rowed-some : (x ≡ 0 → ⊥) → x < 65536 → Rowed r (Some x) s
-  rowed-some z small =
-      let e : row-left (moved r (step-at r .behind)) ≡ row-left s = ap row-left (sym b) in
-      (here .some (λ q. z (w ∙ q)) ∙ λ i. sym w i ∷ e i, small, same)
+-- where a weight was handed back, less is left
+pub less-left : (r s : Row) (o : Option ℕ) → Rowed r o s → Cases o (Unit {0}) (λ x. Unit {0} × Unit {0} × (length (row-left s) < length (row-left r)))
+less-left r s None e = tt
+less-left r s (Some x) e = (tt, tt, (let l = ap length (e .0) in omega arith))

@@ -9,7 +9,7 @@ use Rattle.table.specs.Rules.{Rules}
 use Rattle.table.specs.Valley.{valley}
 use Rattle.keys.specs.declared.level.Level.{Level}
 use Rattle.keys.specs.Pieces.{pieces, together}
-use Rattle.keys.specs.Rows.{Zero-free, key, row}
+use Rattle.keys.specs.Rows.{key, row}
 
 -- the next two letters are one together
 abbrev pub meets : (joins : List ℕ → Bool) → List ℕ → Bool
@@ -29,9 +29,14 @@ One-reading =
     (joins : List ℕ → Bool) (n : List ℕ) →
     Reads joins n (pieces joins n) × ((ps : List (List ℕ)) → Reads joins n ps → ps ≡ pieces joins n)
 
+-- numbers none of which is 0
+abbrev pub Zero-free : List ℕ → Type 0
+Zero-free [] = Unit {0}
+Zero-free (x ∷ xs) = (0 < x) × Zero-free xs
+
 -- no 0 stands in a row
-abbrev pub Rows-count : Type 0
-Rows-count = (l : Level) (t : Rules) (n : List ℕ) → Zero-free (row l t n)
+abbrev pub Rows-zero-free : Type 0
+Rows-zero-free = (l : Level) (t : Rules) (n : List ℕ) → Zero-free (row l t n)
 
 -- a key has at most three numbers for each letter and the two between
 abbrev pub Keys-short : Type 0
@@ -47,7 +52,7 @@ Key-of-chad = key valley (codes "chad") ≡ 35 ∷ (10 ∷ (40 ∷ (0 ∷ (1 ∷
 -- all of these
 pub record Laws : Type 0 where
   pub one-reading : One-reading
-  pub rows-count : Rows-count
+  pub rows-zero-free : Rows-zero-free
   pub keys-short : Keys-short
   pub key-of-cab : Key-of-cab
   pub key-of-chad : Key-of-chad

@@ -1,51 +1,39 @@
 -- Reading along a row and along a key.
-use mathlib.Core.Bool.{true, cond}
+use mathlib.Core.Bool.{cond}
 use mathlib.Core.Path.{_≡_}
 use mathlib.Core.List.{List, [], _∷_}
 use Prim.Native.Nat.{ℕ, _+_, _<_}
 use denote.Ref.{now}
-use lib.Dec.{eqb}
+use lib.Dec.{eqb, ltb}
 use lib.ListN.{length, getD, drop}
 use Rattle.std.specs.declared.option.Option.{Option}
 use Rattle.std.specs.declared.option.Option.the-variants.{Some, None}
+use Rattle.table.specs.declared.piece.Weights.{Weights}
 use Rattle.table.specs.Meaning.{rules-of}
-use Rattle.table.specs.Rules.{Rules}
+use Rattle.table.specs.Rules.{Rules, contraction}
 use Rattle.keys.specs.declared.level.Level.{Level}
 use Rattle.keys.specs.declared.level.Level.the-variants.{Primary, Secondary, Tertiary}
 use Rattle.keys.specs.declared.numbers.KeyNumbers.{KeyNumbers}
 use Rattle.keys.specs.declared.row.Row.{Row}
-use Rattle.keys.specs.Pieces.{pieces}
-use Rattle.keys.specs.Rows.{joined, row, weight}
-
--- a step along a row: a weight, and the place behind what weighs so
-pub record Step : Type 0 where
-  pub weight : ℕ
-  pub behind : ℕ
-
--- of pieces, the first of which begins at place i, the first that counts; where none does the weight is 0, and the place
--- behind them all
-unfoldable pub first-counting : (List ℕ → ℕ) → (i : ℕ) → List (List ℕ) → Step
-first-counting w i [] = record { weight = 0; behind = i }
-first-counting w i (p ∷ ps) =
-    cond (eqb (w p) 0) (first-counting w (i + length p) ps) (record { weight = w p; behind = i + length p })
-
--- the next step from place i of a name on
-abbrev pub step-from : Level → Rules → List ℕ → (i : ℕ) → Step
-step-from l t n i = first-counting (weight l t) i (pieces (t .joins) (drop i n))
-
--- the next step where reading a row has come to
-abbrev pub step-at : Row → Step
-step-at r = step-from (r .level) (rules-of (now (r .table))) (now (r .name)) (r .from)
+use Rattle.keys.specs.Rows.{joined, on, row}
 
 -- the same row at another place
 abbrev pub moved : Row → (i : ℕ) → Row
 moved r i = record { table = r .table; name = r .name; level = r .level; from = i }
 
--- the next two letters are one together, and weigh so on the level
-pub record Pair-at (r : Row) (w : ℕ) : Type 0 where
-  pub within : r .from + 1 < length (now (r .name))
-  pub joins : rules-of (now (r .table)) .joins (getD (now (r .name)) (r .from) 0 ∷ (getD (now (r .name)) (r .from + 1) 0 ∷ [])) ≡ true
-  pub weighs : w ≡ weight (r .level) (rules-of (now (r .table))) (getD (now (r .name)) (r .from) 0 ∷ (getD (now (r .name)) (r .from + 1) 0 ∷ []))
+-- what the next two letters weigh, where they are there and are one together
+abbrev pub next-pair : Row → Option Weights
+next-pair r =
+    cond (ltb (r .from + 1) (length (now (r .name))))
+    (contraction (rules-of (now (r .table))) (getD (now (r .name)) (r .from) 0 ∷ (getD (now (r .name)) (r .from + 1) 0 ∷ []))) None
+
+-- they are, and weigh so on the level
+abbrev pub Pair-at : Row → (w : ℕ) → Type 0
+Pair-at r w = (v : Weights) × (next-pair r ≡ Some v) × (w ≡ on (r .level) v)
+
+-- a weight that without-zeros
+abbrev pub some-weight : ℕ → Option ℕ
+some-weight x = cond (eqb x 0) None (Some x)
 
 -- what is still to come of a row
 abbrev pub row-left : Row → List ℕ
@@ -62,6 +50,7 @@ key-left t n Primary i = joined (row Primary t (drop i n) ∷ (row Secondary t n
 key-left t n Secondary i = joined (row Secondary t (drop i n) ∷ (row Tertiary t n ∷ []))
 key-left t n Tertiary i = joined (row Tertiary t (drop i n) ∷ [])
 
+-- what is still to come of a key that is being read
 abbrev pub numbers-left : KeyNumbers → List ℕ
 numbers-left k = key-left (rules-of (now (k .row .table))) (now (k .row .name)) (k .row .level) (k .row .from)
 

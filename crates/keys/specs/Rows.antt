@@ -1,7 +1,7 @@
 -- Rows of weights, and the sort key that they make.
 use mathlib.Core.Bool.{cond}
 use mathlib.Core.List.{List, [], _∷_, _++_, map}
-use Prim.Native.Nat.{ℕ, _<_}
+use Prim.Native.Nat.{ℕ}
 use lib.Dec.{eqb}
 use Rattle.std.specs.declared.option.Option.{Option}
 use Rattle.std.specs.declared.option.Option.the-variants.{Some, None}
@@ -27,19 +27,14 @@ level-behind Tertiary = None
 abbrev pub weight : Level → Rules → List ℕ → ℕ
 weight l t p = on l (t .weighs p)
 
--- what counts: all but 0
-unfoldable pub counts : List ℕ → List ℕ
-counts [] = []
-counts (x ∷ xs) = cond (eqb x 0) (counts xs) (x ∷ counts xs)
-
--- a row in which no 0 stands
-abbrev pub Zero-free : List ℕ → Type 0
-Zero-free [] = Unit {0}
-Zero-free (x ∷ xs) = (0 < x) × Zero-free xs
+-- what is left where zeros are left out
+unfoldable pub without-zeros : List ℕ → List ℕ
+without-zeros [] = []
+without-zeros (x ∷ xs) = cond (eqb x 0) (without-zeros xs) (x ∷ without-zeros xs)
 
 -- a name's row of a level: the weights of its pieces on that level, in order, without zeros
 unfoldable pub row : Level → Rules → List ℕ → List ℕ
-row l t n = counts (map (weight l t) (pieces (t .joins) n))
+row l t n = without-zeros (map (weight l t) (pieces (t .joins) n))
 
 -- its rows, level after level
 abbrev pub rows : Rules → List ℕ → List (List ℕ)

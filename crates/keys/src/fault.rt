@@ -1,16 +1,29 @@
 // Why a key is not made.
 ghost use mathlib.Core.Path.{_≡_};
+ghost use Rattle.std.specs.Orderings.{Decides};
 ghost use Rattle.keys.specs.Refusals.{name-refusal, name-refusal-number, name-refusal-place};
 ghost use Rattle.keys.specs.declared.fault.KeyError.the-variants.{NoMemory};
 use std::alloc::AllocError;
 use table::Table;
 
 // Why a name is turned away.
-#[derive(Clone, Copy, PartialEq, Eq, Debug)]
+#[derive(Clone, Copy, Debug)]
 pub enum NameRefusal {
     // It has more than 1,000 letters: how many.
     TooLong(usize),
 }
+
+pub impl PartialEq<NameRefusal> for NameRefusal as NameRefusalPartialEq {
+    ghost equals = { λ x y r. Decides r (x ≡ y) };
+
+    fn eq(&self, other: &NameRefusal) -> bool {
+        let NameRefusal::TooLong(letters) = *self;
+        let NameRefusal::TooLong(others) = *other;
+        letters == others
+    }
+}
+
+pub impl Eq for NameRefusal as NameRefusalEq {}
 
 impl NameRefusal {
     // What is wrong with a name.

@@ -10,7 +10,7 @@ use crate::row::RowIterator;
 use table::Table;
 
 // What is left of the row that is being read; the rows of the levels behind it are still to come.
-#[derive(Clone, Copy)]
+#[derive(Drop)]
 pub struct KeyNumbers<'a, 't, 'n> {
     row: Row<'a, 't, 'n>,
 }
@@ -21,12 +21,7 @@ impl<'a, 't, 'n> KeyNumbers<'a, 't, 'n> {
         ensures { λ r. ⌜ numbers-left r ≡ key (rules-of (now (table .entry))) (now (name .entry)) ⌝ }
     {
         KeyNumbers {
-            row: Row {
-                table,
-                name,
-                level: Level::Primary,
-                from: 0,
-            },
+            row: Row::new(table, Level::Primary, name),
         }
     }
 }

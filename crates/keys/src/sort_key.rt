@@ -1,11 +1,11 @@
 // Sort keys of names under a checked table.
 ghost use mathlib.Core.Path.{_≡_};
 ghost use mathlib.Core.List.{_++_};
-ghost use Prim.Native.Nat.{_<_, _≤_};
+ghost use Prim.Native.Nat.{_-_, _^_, _<_, _≤_};
 ghost use lib.ListN.{length, drop};
 ghost use Rattle.std.specs.Of.Vec.{vec-items};
 ghost use Rattle.std.specs.Vec.{made};
-ghost use Rattle.keys.specs.Making.{Made, Written, counted, lacking};
+ghost use Rattle.keys.specs.Making.{Made, Written, lacking, saturated};
 ghost use Rattle.keys.specs.Reading.{numbers-left};
 ghost use Rattle.keys.specs.Rows.{key};
 ghost use Rattle.table.specs.Meaning.{rules-of};
@@ -26,7 +26,7 @@ pub trait SortKeys {
 
     // How many numbers a name's key has.
     fn key_len(&self, name: &[u8]) -> usize
-        ensures { λ r. ⌜ r ≡ counted (length (key (rules (now (self .entry))) (now (name .entry)))) ⌝ };
+        ensures { λ r. ⌜ r ≡ saturated (length (key (rules (now (self .entry))) (now (name .entry)))) ⌝ };
 
     // A name's key, written into the front of `room`, and how many numbers it has.
     fn write_key(&self, name: &[u8], room: &mut [u32]) -> Result<usize, Short>
@@ -66,7 +66,7 @@ pub impl SortKeys for Table<'_> as TableSortKeys {
 // How many numbers a name's key has, where `room` is too few. A key has at most three numbers for each letter and two
 // between, so it is only measured where that may be too many.
 pub(crate) fn shortage(table: &Table, name: &[u8], room: usize) -> Option<usize>
-    requires { ⌜ room < 18446744073709551615 ⌝ }
+    requires { ⌜ room < 2 ^ 64 - 1 ⌝ }
     ensures { λ r. ⌜ r ≡ lacking (length (key (rules-of (now (table .entry))) (now (name .entry)))) room ⌝ }
 {
     if room >= 2 && name.len() <= (room - 2) / 3 {

@@ -6,11 +6,17 @@ use keys::KeyError;
 use keys::NameRefusal;
 use keys::NameRefusalDebug;
 use keys::NameRefusalPartialEq;
+use keys::Short;
+use keys::ShortDebug;
+use keys::ShortPartialEq;
 use keys::SortKeys;
 use keys::TableSortKeys;
 use keys::make_key;
 use std::test::*;
+use table::Pair;
 use table::Table;
+use table::TableBuf;
+use table::Weights;
 use table::valley_letters;
 use table::valley_pairs;
 
@@ -94,9 +100,33 @@ fn order_of_checks() -> Result<(), Fail> {
     check(room == [7; 4])
 }
 
-// A checked table takes any bytes; a million letters that do not count on a level use up no stack.
+// A checked table takes any bytes; steps over letters and pairs that do not count use up no stack.
 #[test]
 fn any_bytes(rt: LibcRuntime) -> Result<(), Fail> {
-    let name = vec![in rt.alloc(); 0u8; 1000000]?;
-    check_eq(Table::valley().key_len(name.as_slice()), 1000002)
+    let heap = rt.alloc();
+    let mut own = TableBuf::new(heap)?;
+    own.set_letter(
+        1,
+        Weights {
+            primary: 7,
+            secondary: 8,
+            tertiary: 9,
+        },
+    );
+    let added = own.add_pair(Pair {
+        first: 0,
+        second: 0,
+        weights: Weights {
+            primary: 0,
+            secondary: 0,
+            tertiary: 0,
+        },
+    });
+    check(added.is_ok())?;
+    let mut name = vec![in heap; 0u8; 20000001]?;
+    check_eq(Table::valley().key_len(name.as_slice()), 20000003)?;
+    name[20000000] = 1;
+    let mut room = [3u32; 6];
+    check_eq(own.table().write_key(name.as_slice(), &mut room), Ok(5))?;
+    check(room == [7, 0, 8, 0, 9, 3])
 }

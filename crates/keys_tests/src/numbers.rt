@@ -132,19 +132,23 @@ fn own_table(rt: LibcRuntime) -> Result<(), Fail> {
     )
 }
 
-// A row alone, and a name from the middle of a text.
+fn hold_row(table: &Table, name: &[u8], weights: &[u32]) -> Result<(), Fail> {
+    let mut row = Row::new(table, Level::Primary, name);
+    for weight in weights {
+        check_eq(row.next(), Some(*weight))?;
+    }
+    check_eq(row.next(), None)?;
+    check_eq(row.next(), None)
+}
+
+// A name from the middle of a text: letters before it and behind it are not seen.
 #[test]
 fn middle_of_a_text() -> Result<(), Fail> {
     let table = Table::valley();
     let text = b"xxchadch";
-    let name = &text[2..6];
-    let mut row = Row::new(&table, Level::Primary, name);
-    check_eq(row.next(), Some(35))?;
-    check_eq(row.next(), Some(10))?;
-    check_eq(row.next(), Some(40))?;
-    check_eq(row.next(), None)?;
-    check_eq(row.next(), None)?;
-    // The pair that the text goes on with is not seen from a part that ends before its second letter.
-    check_eq(table.key_len(&text[0..3]), 11)?;
-    check_eq(table.key_len(&text[0..4]), 11)
+    hold_row(&table, &text[2..6], &[35, 10, 40])?;
+    hold_row(&table, &text[0..3], &[240, 240, 30])?;
+    hold_row(&table, &text[0..4], &[240, 240, 35])?;
+    hold_row(&table, &text[3..7], &[80, 10, 40, 30])?;
+    hold_row(&table, &text[8..8], &[])
 }

@@ -3,8 +3,8 @@ use mathlib.Core.Bool.{true, false, cond}
 use mathlib.Core.Path.{_≡_}
 use mathlib.Core.List.{List, []}
 use Prim.Native.Nat.{ℕ}
-use Rattle.keys.specs.Refusals.{name-refusal}
-use Rattle.keys.specs.Rows.{key}
+use Rattle.keys.specs.declared.fault.KeyError.the-variants as key
+use Rattle.keys.specs.Making.{Made}
 use Rattle.std.specs.declared.option.Option.{Option}
 use Rattle.std.specs.declared.option.Option.the-variants.{Some, None}
 use Rattle.std.specs.declared.result.Result.{Result}
@@ -38,14 +38,14 @@ Pair-taken s p (Err (Refused (Name why))) t = ⊥
 Pair-taken s p (Err (Refused (Text k))) t = ⊥
 Pair-taken s p (Err NoMemory) t = Added (s .table) p (Err add.NoMemory) (t .table) × (t .own ≡ s .own)
 
--- a name's key, in memory whose items are the key, or why it was not made
+-- a key is made, or not, as under a checked table
 abbrev pub Key-answered : {V : Type 0} → Rules → List ℕ → (V → List ℕ) → Result (Option V) TakeError → Type 0
 Key-answered rules n items (Ok None) = ⊥
-Key-answered rules n items (Ok (Some v)) = (name-refusal n ≡ None) × (items v ≡ key rules n)
+Key-answered rules n items (Ok (Some v)) = Made rules n items (Ok v)
 Key-answered rules n items (Err (Refused (Table why))) = ⊥
-Key-answered rules n items (Err (Refused (Name why))) = name-refusal n ≡ Some why
+Key-answered rules n items (Err (Refused (Name why))) = Made rules n items (Err (key.Refused why))
 Key-answered rules n items (Err (Refused (Text k))) = ⊥
-Key-answered rules n items (Err NoMemory) = name-refusal n ≡ None
+Key-answered rules n items (Err NoMemory) = Made rules n items (Err key.NoMemory)
 
 -- nothing has been taken yet
 pub record Fresh (s : Session) : Type 0 where

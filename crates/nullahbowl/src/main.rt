@@ -16,6 +16,7 @@ use std::io::Write;
 use table::Table;
 use texts::Command;
 use texts::CommandDisplay;
+use texts::Fault;
 use texts::FaultDisplay;
 use texts::Numbers;
 use texts::NumbersDisplay;
@@ -39,22 +40,22 @@ fn run(rt: &LibcRuntime) -> Result<usize, AnyError> {
         return Ok(0);
     }
     let mut session = Session::new(rt.alloc())?;
-    let mut done = Done {
+    let mut tally = Tally {
         faults: 0,
-        answers: 0,
+        asked: 0,
     };
     let mut named = false;
     for name in env::args(rt)?.skip(1) {
         named = true;
-        done = done.and(read_named(rt, &mut session, name.as_str())?);
+        tally = tally.and(read_named(rt, &mut session, name.as_str())?);
     }
     if !named {
-        done = read_named(rt, &mut session, "-")?;
+        tally = read_named(rt, &mut session, "-")?;
     }
-    if done.answers == 0 {
+    if tally.asked == 0 {
         write_table(rt, &session.table())?;
     }
-    Ok(done.faults)
+    Ok(tally.faults)
 }
 
 fn asks_help(rt: &LibcRuntime) -> Result<bool, AnyError> {
@@ -66,34 +67,34 @@ fn asks_help(rt: &LibcRuntime) -> Result<bool, AnyError> {
     Ok(false)
 }
 
-// How much was turned away, and how much was answered.
+// How much was turned away, and how many keys were asked for.
 #[derive(Clone, Copy)]
-struct Done {
+struct Tally {
     faults: usize,
-    answers: usize,
+    asked: usize,
 }
 
-impl Done {
-    // What was done before and behind.
-    fn and(self, more: Done) -> Done
-        ensures { λ r. ⌜ (r .faults ≡ min (self .faults + more .faults) (2 ^ 64 - 1)) × (r .answers ≡ min (self .answers + more .answers) (2 ^ 64 - 1)) ⌝ }
+impl Tally {
+    // This and more.
+    fn and(self, more: Tally) -> Tally
+        ensures { λ r. ⌜ (r .faults ≡ min (self .faults + more .faults) (2 ^ 64 - 1)) × (r .asked ≡ min (self .asked + more .asked) (2 ^ 64 - 1)) ⌝ }
     {
-        Done {
+        Tally {
             faults: self.faults.saturating_add(more.faults),
-            answers: self.answers.saturating_add(more.answers),
+            asked: self.asked.saturating_add(more.asked),
         }
     }
 }
 
 // Reads a file and answers what it asks for.
-fn read_named(rt: &LibcRuntime, session: &mut Session, name: &str) -> Result<Done, AnyError> {
+fn read_named(rt: &LibcRuntime, session: &mut Session, name: &str) -> Result<Tally, AnyError> {
     match read_bytes(rt, name) {
         Ok(text) => read_text(rt, session, name, text.as_slice()),
         Err(why) => {
             eprintln!(rt, "{name}: {why}")?;
-            Ok(Done {
+            Ok(Tally {
                 faults: 1,
-                answers: 0,
+                asked: 0,
             })
         }
     }
@@ -115,11 +116,11 @@ fn read_text(
     session: &mut Session,
     name: &str,
     text: &[u8],
-) -> Result<Done, AnyError> {
+) -> Result<Tally, AnyError> {
     let mut out = BufWriter::new(rt.stdout());
-    let mut done = Done {
+    let mut tally = Tally {
         faults: 0,
-        answers: 0,
+        asked: 0,
     };
     let mut place = 0usize;
     let mut rest = Some(text);
@@ -130,12 +131,16 @@ fn read_text(
             Ok(Some(key)) => {
                 let numbers = Numbers(key.as_slice());
                 writeln!(out, "{numbers}")?;
-                done.answers += 1;
+                tally.asked += 1;
             }
             Err(TakeError::Refused(fault)) => {
                 let line = place + 1;
                 eprintln!(rt, "{name}:{line}: {fault}")?;
-                done.faults += 1;
+                tally.faults += 1;
+                // A name is turned away only where its key was asked for.
+                if let Fault::Name(_) = fault {
+                    tally.asked += 1;
+                }
             }
             Err(TakeError::NoMemory) => {
                 out.flush()?;
@@ -146,7 +151,7 @@ fn read_text(
         place += 1;
     }
     out.flush()?;
-    Ok(done)
+    Ok(tally)
 }
 
 // Writes a table as the lines that would make it, and how much it holds.

@@ -1,4 +1,4 @@
--- How letters, commands and messages are written.
+-- How letters, commands, numbers and messages are written.
 use mathlib.Core.Bool.{true, _&&_, cond}
 use mathlib.Core.List.{List, [], _∷_, _++_}
 use Prim.Native.Nat.{ℕ, _/_, _%_}

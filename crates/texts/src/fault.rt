@@ -14,7 +14,7 @@ use table::RefusalPartialEq;
 pub enum Fault {
     // The table would be none with it.
     Table(Refusal),
-    // It holds something that is no name.
+    // The name that it asks about is turned away.
     Name(NameRefusal),
     // It can't be read: its line, counted from 0.
     Text(usize),

@@ -1,8 +1,8 @@
 // Lines of text read into what they say, and what is said written.
 //
 // A text is cut into lines and a line into words (part); words are letters and numbers (numeral); a line says a `Command`,
-// nothing, or cannot be read (line). Commands are written as the lines that say them (written), and what is turned away
-// as a message with its number and place (fault).
+// asks for a key, says nothing, or cannot be read (line). Commands are written as the lines that say them, keys as their
+// numbers (written), and what is turned away as a message with its number and place (fault).
 mod fault;
 mod line;
 mod numeral;
@@ -18,9 +18,7 @@ pub use line::CommandDebug;
 pub use line::CommandPartialEq;
 pub use line::Line;
 pub use line::LineDebug;
-pub use line::LinePartialEq;
 pub use part::Cut;
-pub use part::behind_word;
 pub use part::first_part;
 pub use part::without_return;
 pub use written::CommandDisplay;

@@ -23,7 +23,7 @@ pub enum Command {
     AddPair(Pair),
 }
 
-#[derive(Clone, Copy, PartialEq, Eq, Debug)]
+#[derive(Clone, Copy, Debug)]
 pub enum Line<'a> {
     // Nothing stands in it.
     Blank,

@@ -42,7 +42,7 @@ pub fn without_return<'a>(line: &'a [u8]) -> &'a [u8]
 }
 
 // What stands behind a word and one space at the front of a line; nothing where the line is that word alone.
-pub fn behind_word<'a>(line: &'a [u8], word: &[u8]) -> Option<&'a [u8]>
+pub(crate) fn behind_word<'a>(line: &'a [u8], word: &[u8]) -> Option<&'a [u8]>
     ensures { λ r. ⌜ mapped held r ≡ behind-word (now (word .entry)) (now (line .entry)) ⌝ }
 {
     if line.len() < word.len() {

@@ -1,4 +1,4 @@
-// Letters and commands as they are written.
+// Letters, commands and the numbers of keys as they are written.
 ghost use mathlib.Core.Path.{_≡_};
 ghost use Prim.Native.Nat.{_<_};
 ghost use denote.Ref.{now as held};

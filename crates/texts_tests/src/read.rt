@@ -3,9 +3,8 @@ use std::test::*;
 use table::Pair;
 use table::Weights;
 use texts::Command;
+use texts::CommandPartialEq;
 use texts::Line;
-use texts::LineDebug;
-use texts::LinePartialEq;
 use texts::without_return;
 
 const ONE: Weights = Weights {
@@ -30,9 +29,19 @@ fn pair(first: u16, second: u16) -> Line<'static> {
 #[derive(Clone, Copy)]
 struct Case(&'static [u8], Line<'static>);
 
+fn same(line: Line, other: Line) -> bool {
+    match (line, other) {
+        (Line::Blank, Line::Blank) => true,
+        (Line::Says(command), Line::Says(said)) => command == said,
+        (Line::Key(name), Line::Key(asked)) => name == asked,
+        (Line::Unreadable, Line::Unreadable) => true,
+        _ => false,
+    }
+}
+
 fn hold(cases: &[Case]) -> Result<(), Fail> {
     for case in cases {
-        check_eq(Line::read(case.0), case.1)?;
+        check(same(Line::read(case.0), case.1))?;
     }
     Ok(())
 }

@@ -1,4 +1,4 @@
-// How commands and messages are written.
+// How commands, messages and numbers are written.
 use keys::NameRefusal;
 use std::test::*;
 use table::Pair;

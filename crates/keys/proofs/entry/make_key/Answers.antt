@@ -1,7 +1,8 @@
 use mathlib.Core.Bool.{cond}
-use mathlib.Core.Path.{_≡_, refl, sym, ap, _∙_}
+use mathlib.Core.Path.{_≡_, refl, sym, ap, subst, _∙_}
 use lib.ListN.{length}
 use Rattle.std.specs.Options.{isSome}
+use Rattle.std.specs.declared.option.Option.the-variants.{Some}
 use Rattle.table.specs.Meaning.{rules-of}
 use Rattle.table.specs.Rules.{no-rules, rules-in}
 use Rattle.keys.specs.Making.{lacking}
@@ -18,7 +19,8 @@ returns-in-Some-shortage c =
     let room = length (c .args .room .now) in
     let kept : rules-of (c .check-checked .result .table) ≡ rules-in ls js n =
     c .check-checked .ensures .rules ∙ ap (λ r. cond (isSome r) no-rules (rules-in ls js n)) (c .in-rest .is) in
-    let lacks = ap (λ t. lacking (length (key t x)) room) (sym kept) ∙ (sym (c .shortage .ensures) ∙ c .in-Some-shortage .is) in
+    let told = sym (c .shortage .ensures) ∙ c .in-Some-shortage .is in
+    let lacks = subst (λ t. lacking (length (key t x)) room ≡ Some (c .in-Some-shortage .needs)) kept told in
     record {
       answer = too-short ls js n x room (c .in-Some-shortage .needs) (sym (c .check-checked .ensures .refusal) ∙ c .in-rest .is) (sym (c .of .ensures) ∙ c .in-rest-of .is) lacks;
       room = refl;

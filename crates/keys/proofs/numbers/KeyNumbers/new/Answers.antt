@@ -1,7 +1,8 @@
-use mathlib.Core.Path.{refl}
+use mathlib.Core.Path.{ap}
+use Rattle.keys.specs.Reading.{numbers-left}
 use Rattle.keys.specs.Rows.{key}
 use Rattle.keys.proofs.numbers.KeyNumbers.new.Needs as need
 
 pub returns : need.returns
 unfolding key
-returns c = refl
+returns c = ap (λ r. numbers-left (record { row = r })) (c .new .ensures .start)

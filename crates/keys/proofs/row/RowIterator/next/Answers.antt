@@ -1,19 +1,11 @@
-use borrow.Author.Needs.{needs}
-use native.Mathlib.Omega.{arith}
-use mathlib.Core.Path.{ap}
-use lib.ListN.{length}
-use Rattle.keys.proofs.Stepping.{rowed-none, rowed-some}
+use mathlib.Core.Path.{subst, sym}
+use Rattle.keys.specs.Reading.{Rowed}
+use Rattle.keys.proofs.Stepping.{less-left}
 use Rattle.keys.proofs.row.RowIterator.next.Needs as need
 
-pub returns-then-weight-eq0 : need.returns-then-weight-eq0
-returns-then-weight-eq0 c =
-    let e = c .letter-step-weight .ensures in
-    let steps = rowed-none (c .args .self .now) (c .letter-step-weight .last .self) (c .letter-step-weight .result) (e .weight) (e .behind) (c .if-weight-eq0 .taken) in
-    record { steps = steps; goes = search needs }
-
-pub returns-else-weight-eq0 : need.returns-else-weight-eq0
-returns-else-weight-eq0 c =
-    let e = c .letter-step-weight .ensures in
-    let steps = rowed-some (c .args .self .now) (c .letter-step-weight .last .self) (c .letter-step-weight .result) (e .weight) (e .behind) (c .if-weight-eq0 .left) (e .small) in
-    let l = ap length (steps .0) in
-    record { steps = steps; goes = search needs }
+pub returns : need.returns
+returns c =
+    let r = c .args .self .now in
+    let s = c .letter-step .last .self in
+    let steps = subst (λ o. Rowed r o s) (sym (c .some-weight .ensures)) (c .letter-step .ensures) in
+    record { steps = steps; goes = record { on = λ _. less-left r s (c .some-weight .result) steps } }
