@@ -1,5 +1,6 @@
 -- What the entry that makes a key answers, and what it leaves in the room.
 use mathlib.Core.Bool.{cond}
+use mathlib.Core.Path.{_≡_}
 use mathlib.Core.List.{List, _++_}
 use Prim.Native.Nat.{ℕ}
 use lib.Dec.{ltb}
@@ -28,3 +29,7 @@ abbrev pub room-after : Done → (key room : List ℕ) → List ℕ
 room-after (Keyed n) k room = k ++ drop n room
 room-after (Short n) k room = room
 room-after (Refused n) k room = room
+
+-- what is answered for a table's numbers, a name and room, and what the room holds then
+abbrev pub Key-says : (letters joins : List ℕ) → (how-many : ℕ) → (name room : List ℕ) → Done → (after : List ℕ) → Type 0
+Key-says ls js n x room r after = (r ≡ done-of ls js n x (length room)) × (after ≡ room-after r (key (rules-in ls js n) x) room)

@@ -31,7 +31,7 @@ next-pair r =
 abbrev pub Pair-at : Row → (w : ℕ) → Type 0
 Pair-at r w = (v : Weights) × (next-pair r ≡ Some v) × (w ≡ on (r .level) v)
 
--- a weight that without-zeros
+-- a weight that counts; 0 is none
 abbrev pub some-weight : ℕ → Option ℕ
 some-weight x = cond (eqb x 0) None (Some x)
 

@@ -3,10 +3,8 @@ ghost use mathlib.Core.List.{_++_};
 ghost use mathlib.Core.Path.{_≡_};
 ghost use Prim.Native.Nat.{_≤_};
 ghost use lib.ListN.{length, drop};
-ghost use Rattle.keys.specs.Entry.{done-of, room-after};
+ghost use Rattle.keys.specs.Entry.{Key-says};
 ghost use Rattle.keys.specs.Reading.{numbers-left};
-ghost use Rattle.keys.specs.Rows.{key};
-ghost use Rattle.table.specs.Rules.{rules-in};
 use crate::fault::NameRefusal;
 use crate::numbers::KeyNumbers;
 use crate::numbers::KeyNumbersIterator;
@@ -25,15 +23,27 @@ pub enum Done {
 }
 
 // The key of a name under a table that is lent as numbers, written into the front of `room`. Nothing is allocated.
-pub fn make_key<'a>(
+pub fn make_key(
+    letters: &[u16],
+    joins: &[u16],
+    how_many: u64,
+    name: &[u8],
+    room: &mut [u16],
+) -> Done
+    ensures { λ r. ⌜ Key-says (now (letters .entry)) (now (joins .entry)) «how_many» (now (name .entry)) (now (room .entry)) r (now (room .exit)) ⌝ }
+{
+    make_lent(letters, joins, how_many, name, room)
+}
+
+// The same, with one lifetime for both parts of the table, as a `Table` has it.
+fn make_lent<'a>(
     letters: &'a [u16],
     joins: &'a [u16],
     how_many: u64,
     name: &[u8],
     room: &mut [u16],
 ) -> Done
-    ensures answer { λ r. ⌜ r ≡ done-of (now (letters .entry)) (now (joins .entry)) «how_many» (now (name .entry)) (length (now (room .entry))) ⌝ }
-    ensures room { λ r. ⌜ now (room .exit) ≡ room-after r (key (rules-in (now (letters .entry)) (now (joins .entry)) «how_many») (now (name .entry))) (now (room .entry)) ⌝ }
+    ensures { λ r. ⌜ Key-says (now (letters .entry)) (now (joins .entry)) «how_many» (now (name .entry)) (now (room .entry)) r (now (room .exit)) ⌝ }
 {
     let checked = Table::check(letters, joins, how_many);
     if let Some(why) = checked.refusal {
