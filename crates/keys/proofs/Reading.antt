@@ -7,6 +7,7 @@ use native.Mathlib.Omega.{arith}
 use lib.ListN.{length, getD, drop}
 use Rattle.keys.specs.Laws.{One-reading, Reads, meets}
 use Rattle.keys.specs.Pieces.{pieces, together}
+use Rattle.keys.proofs.Pieces.{one-taken, two-taken}
 
 -- how many letters a piece has says whether it is a pair
 is-one : (b : Bool) → _≡_ {A = ℕ} 1 (cond b 2 1) → b ≡ false
@@ -26,16 +27,6 @@ not-more k true e = absurd (omega arith)
 not-more k false e = absurd (omega arith)
 
 module _ (j : List ℕ → Bool) where
-  -- one letter is taken where the next two are not one
-  one-taken : (a : ℕ) (n : List ℕ) → meets j (a ∷ n) ≡ false → pieces j (a ∷ n) ≡ (a ∷ []) ∷ pieces j n
-  unfolding pieces
-  one-taken a [] e = refl
-  one-taken a (b ∷ n) e = rw e
-
-  two-taken : (a b : ℕ) (n : List ℕ) → j (a ∷ (b ∷ [])) ≡ true → pieces j (a ∷ (b ∷ n)) ≡ (a ∷ (b ∷ [])) ∷ pieces j n
-  unfolding pieces
-  two-taken a b n e = rw e
-
   -- the reading without its first piece
   later : (n : List ℕ) (p : List ℕ) (ps : List (List ℕ)) → Reads j n (p ∷ ps) → Reads j (together ps) ps
   unfolding together
@@ -67,11 +58,11 @@ module _ (j : List ℕ → Bool) where
   only ((a ∷ []) ∷ ps) n r =
       let ih = only ps (together ps) (later n (a ∷ []) ps r) in
       let one = is-one (meets j (a ∷ together ps)) (r .each 0 (omega arith)) in
-      ap (λ l. (a ∷ []) ∷ l) ih ∙ (sym (one-taken a (together ps) one) ∙ ap (pieces j) (r .whole))
+      ap (λ l. (a ∷ []) ∷ l) ih ∙ (sym (one-taken j a (together ps) one) ∙ ap (pieces j) (r .whole))
   only ((a ∷ (b ∷ [])) ∷ ps) n r =
       let ih = only ps (together ps) (later n (a ∷ (b ∷ [])) ps r) in
       let two = is-two (j (a ∷ (b ∷ []))) (r .each 0 (omega arith)) in
-      ap (λ l. (a ∷ (b ∷ [])) ∷ l) ih ∙ (sym (two-taken a b (together ps) two) ∙ ap (pieces j) (r .whole))
+      ap (λ l. (a ∷ (b ∷ [])) ∷ l) ih ∙ (sym (two-taken j a b (together ps) two) ∙ ap (pieces j) (r .whole))
   only ((a ∷ (b ∷ (c ∷ q))) ∷ ps) n r = absurd (not-more (length q) (j (a ∷ (b ∷ []))) (r .each 0 (omega arith)))
 
 pub one-reading : One-reading
