@@ -1,10 +1,10 @@
 // Why a key is not made.
-ghost use Rattle.std.specs.Prelude.{◌≡◌, Decides};
+ghost use Rattle.std.proofs.Common.{rules};
+ghost use Rattle.std.specs.Cmp.Rules.{comparing};
+ghost use Rattle.std.specs.Ordering.{on};
+ghost use Rattle.std.specs.Prelude.{◌≡◌, ◌==◌, ◌↔◌, IsTrue};
 ghost use Rattle.keys.specs.Refusals.{name_refusal, name_refusal_number, name_refusal_place};
 ghost use Rattle.keys.specs.declared.fault.KeyError.TheVariants.{NoMemory};
-ghost use Rattle.std.specs.Cmp.Rules.{comparing};
-ghost use borrow.Author.Rules;
-ghost use Rattle.std.specs.Cmp as Keys;
 
 use std::alloc::AllocError;
 use table::Table;
@@ -17,11 +17,14 @@ pub enum NameRefusal {
 }
 
 impl PartialEq for NameRefusal {
-    ghost equals = { λ x y r. Decides r (x ≡ y) };
+    ghost eq = { on name_refusal_place ◌==◌ };
 
-    ghost laws = { Keys.partial_equiv_from_equiv (Prim.search (comparing, Needs.needs)) };
+    ghost laws = { Prim.search (comparing, rules) };
 
-    fn eq(&self, other: &NameRefusal) -> bool {
+    fn eq(&self, other: &NameRefusal) -> bool
+        ensures gives { result ≡ on name_refusal_place ◌==◌ self.now other.now }
+        ensures same { IsTrue result ↔ (self.now ≡ other.now) }
+    {
         let NameRefusal::TooLong(letters) = *self;
         let NameRefusal::TooLong(others) = *other;
         letters == others
@@ -29,7 +32,7 @@ impl PartialEq for NameRefusal {
 }
 
 impl Eq for NameRefusal {
-    ghost laws = { Prim.search (comparing, Needs.needs) };
+    ghost laws = { Prim.search (comparing, rules) };
 }
 
 impl NameRefusal {

@@ -4,6 +4,8 @@
 // (numbers). The trait `SortKeys` gives a checked `Table` the methods that measure, write and make a key (sort_key);
 // `make_key` does it from lent numbers alone (entry). What is turned away is a `NameRefusal` (fault), and `key_laws` carries
 // what is promised of every name (laws).
+#![tactic(auto)]
+
 mod entry;
 mod fault;
 mod laws;

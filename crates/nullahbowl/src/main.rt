@@ -1,4 +1,6 @@
 // Reads a table of weights, line after line, and answers with sort keys, or says what the table is.
+#![tactic(auto)]
+
 ghost use Rattle.std.specs.Prelude.{◌≡◌, ◌+◌, ◌-◌, ◌^◌, min};
 
 mod session;

@@ -4,6 +4,8 @@
 // letter by letter and pair by pair, and lends a `Table` (buffer). Both read and write numbers by one layout and look
 // pairs up along chains. What is turned away is a `Refusal` (fault). The valley's own table is built in (valley), and
 // `table_laws` carries what is promised of every table (laws).
+#![tactic(auto)]
+
 mod buffer;
 mod chain;
 mod fault;

@@ -1,4 +1,6 @@
 // Tables of weights on examples: every refusal with its place, lookups, and filling.
+#![tactic(auto)]
+
 #[cfg(test)]
 mod fill;
 #[cfg(test)]

@@ -3,6 +3,8 @@
 // A text is cut into lines and a line into words (part); words are letters and numbers (numeral); a line says a `Command`,
 // asks for a key, says nothing, or cannot be read (line). Commands are written as the lines that say them, keys as their
 // numbers (written), and what is turned away as a message with its number and place (fault).
+#![tactic(auto)]
+
 mod fault;
 mod line;
 mod numeral;

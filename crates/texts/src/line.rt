@@ -50,10 +50,10 @@ fn read_command(line: &[u8]) -> Option<Command>
     ensures { result ≡ command (words line.now) }
 {
     let cut = first_part(line, b' ');
-    if cut.part == b"letter" {
+    if cut.part == b"letter".as_slice() {
         return read_letter(cut.rest);
     }
-    if cut.part == b"pair" {
+    if cut.part == b"pair".as_slice() {
         return read_pair(cut.rest);
     }
     None

@@ -20,7 +20,7 @@ invariant_of-self-2 c =
     let k = ap (λ k. pair_refusal (buffer_rules b) k c.args.pair) (length-map-range_with_len (pair_at ps) 0 b.count) in
     let n = refusal_more ps b.count c.args.pair s.fives ls s.whole s.known s.apart in
     let i = c.in_ok-extend_from_slice.ensures.items ∙ ap (λ xs. ps ++ xs) c.pair_numbers.ensures in
-    (ap (λ qs. is_some (refusal_of ls qs (b.count + 1))) i ∙ ap is_some (n ∙ sym k ∙ sym c.in_default.ensures), tt)
+    record { sound = ap (λ qs. is_some (refusal_of ls qs (b.count + 1))) i ∙ ap is_some (n ∙ sym k ∙ sym c.in_default.ensures) }
 
 pub returns : goal.returns
 returns c =

@@ -7,12 +7,12 @@ use Rattle.table.proofs.buffer.TableBuf.new.Goals as goal
 pub invariant_of-result : goal.invariant_of-result
 unfolding refusal_of first_place
 invariant_of-result c =
-    let l : vec_items c.in_ok-letters.letters ≡ replicate 768 0 = c.in_ok-letters.ensures.items-if-clones-equal (λ y e. e) in
+    let l : vec_items c.in_ok-letters.letters ≡ replicate 768 0 = c.in_ok-letters.ensures.items_if_clones_equal (λ y e. e) in
     let p = c.new.ensures.items in
-    (ap₂ (λ ls ps. is_some (refusal_of ls ps 0)) l p, tt)
+    record { sound = ap₂ (λ ls ps. is_some (refusal_of ls ps 0)) l p }
 
 pub returns : goal.returns
 returns c =
-    let l : vec_items c.in_ok-letters.letters ≡ replicate 768 0 = c.in_ok-letters.ensures.items-if-clones-equal (λ y e. e) in
+    let l : vec_items c.in_ok-letters.letters ≡ replicate 768 0 = c.in_ok-letters.ensures.items_if_clones_equal (λ y e. e) in
     let p = c.new.ensures.items in
     (ap₂ (λ ls ps. rules_in ls ps 0) l p ∙ blank_rules, refl)

@@ -11,7 +11,7 @@ pub invariant_of-self : goal.invariant_of-self
 invariant_of-self c =
     let b = c.args.self.now in
     let e = ap length c.set_weights.ensures ∙ length_written (vec_items b.letters) (3 * c.args.letter) c.args.weights in
-    (ap is_some (refusal_letters (vec_items b.letters) _ (vec_items b.pairs) b.count e) ∙ b.sound, tt)
+    record { sound = ap is_some (refusal_letters (vec_items b.letters) _ (vec_items b.pairs) b.count e) ∙ b.sound }
 
 pub returns : goal.returns
 returns c =

@@ -5,7 +5,15 @@ use Rattle.table.proofs.view.Table.blank.Goals as goal
 
 pub invariant_of-result : goal.invariant_of-result
 unfolding first_place
-invariant_of-result c = (refl, (refl, (omega arith, (refl, (refl, (c.new.ensures.heads [], ((λ k l. absurd (omega arith)), tt)))))))
+invariant_of-result c = record {
+  whole = refl;
+  fives = refl;
+  few = omega arith;
+  known = refl;
+  apart = refl;
+  heads = c.new.ensures.heads [];
+  links = λ k l. absurd (omega arith);
+}
 
 pub returns : goal.returns
 returns c = record { rules = blank_rules; pairs = refl }

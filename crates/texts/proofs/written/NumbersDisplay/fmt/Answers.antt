@@ -17,7 +17,7 @@ loop-i-preserved g c = λ plain.
       | else-i-eq0 w ↦ ap (λ r. r.now) w.gap-is ∙ sym (some_gap c.loop-i.i w.if-i-eq0.false)
     ] in
     let front = c.loop-i.invariant plain in
-    let next = c.in_ok-write.ensures.shows front.plain refl in
+    let next = c.in_ok-write.ensures.writes front.plain refl in
     let all = has_written_append g.W.Write.write_str_gives c.args.f.now _ c.loop-i.f _ c.write.new.self front next in
     has_written_of_eq g.W.Write.write_str_gives c.args.f.now _ _ c.write.new.self
     (ap (λ b. numbers_text (take c.loop-i.i c.args.self.now.0.now) ++ (b ++ decimal (get_or c.args.self.now.0.now c.loop-i.i 0))) here
