@@ -8,6 +8,7 @@ mod session;
 use anyhow::anyhow;
 use session::{Session, TakeError};
 use std::io::{BufWriter, Read, Write};
+use std::process::ExitCode;
 use std::{env, fs, io};
 use table::Table;
 use texts::{Command, Fault, Numbers, first_part};
@@ -15,12 +16,12 @@ use texts::{Command, Fault, Numbers, first_part};
 const HELP: &str =
     "usage: nullahbowl [FILE ..]\n\nReads lines from the files, or from standard input where none is named or the name is -:\n\n  letter X a b c     the letter X weighs a, b and c\n  pair X Y a b c     the letters X and Y are one together, and weigh a, b and c\n  key X              writes the sort key of the name X\n\nWhere no key is asked for, writes the table that the lines make. What is turned away is said on standard error.\n";
 
-fn main(rt: HostRuntime) -> anyhow::Result<()> {
+fn main(rt: HostRuntime) -> anyhow::Result<ExitCode> {
     let faults = run(&rt)?;
     if faults > 0 {
-        return Err(anyhow!("some lines were turned away"));
+        return Ok(ExitCode::FAILURE);
     }
-    Ok(())
+    Ok(ExitCode::SUCCESS)
 }
 
 // Does what the arguments say, and answers how much was turned away.

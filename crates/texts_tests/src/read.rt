@@ -154,9 +154,9 @@ fn bad_numbers(rt: HostRuntime) {
 // One carriage return at the end is no part of the line.
 #[test]
 fn carriage_returns(rt: HostRuntime) {
-    assert!(rt; without_return(b"ab\r") == b"ab");
-    assert!(rt; without_return(b"ab\r\r") == b"ab\r");
-    assert!(rt; without_return(b"\rab") == b"\rab");
-    assert!(rt; without_return(b"\r") == b"");
-    assert!(rt; without_return(b"") == b"");
+    assert!(rt; without_return(b"ab\r") == b"ab".as_slice());
+    assert!(rt; without_return(b"ab\r\r") == b"ab\r".as_slice());
+    assert!(rt; without_return(b"\rab") == b"\rab".as_slice());
+    assert!(rt; without_return(b"\r") == b"".as_slice());
+    assert!(rt; without_return(b"") == b"".as_slice());
 }
