@@ -1,9 +1,9 @@
 # make demo      prove and build the program, and run it on the examples
-# make test      prove everything from nothing, try the must-fail edits, run all tests
+# make test      prove everything, try the must-fail edits, run all tests
 # make install   copy the program to PREFIX/bin
 
 PREFIX ?= /usr/local
-PROGRAM := target/bin/nullahbowl
+PROGRAM := crates/nullahbowl/out/nullahbowl
 
 .PHONY: all build demo test install kit
 
@@ -15,7 +15,7 @@ kit:
 
 build: kit
 	@echo "Proving and building $(PROGRAM); the first time takes some minutes."
-	@log=$$(mktemp); rt check nullahbowl >"$$log" 2>&1 || { tail -n 40 "$$log"; rm -f "$$log"; exit 1; }; rm -f "$$log"
+	@tests/build
 
 demo: build
 	@echo "$(PROGRAM) examples/keys.txt | paste examples/keys.txt -"

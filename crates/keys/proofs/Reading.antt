@@ -1,5 +1,5 @@
 -- A name's pieces in other words: the only reading of it.
-use Rattle.std.proofs.Common.{◌≡◌, ℕ, zero, suc, ◌+◌, ◌<◌, Bool, true, false, cond, List, [], ◌∷◌, ◌++◌, length, get_or, drop, sym, refl, ap, ◌∙◌, arith}
+use Rattle.std.proofs.Common.{◌≡◌, ℕ, zero, suc, ◌<◌, Bool, true, false, cond, List, [], ◌∷◌, ◌++◌, length, get_or, drop, sym, refl, ap, ◌∙◌, arith}
 use Rattle.keys.specs.Laws.{OneReading, Reads, meets}
 use Rattle.keys.specs.Pieces.{pieces, together}
 use Rattle.keys.proofs.Pieces.{one_taken, two_taken}

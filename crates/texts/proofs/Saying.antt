@@ -1,8 +1,7 @@
 -- What a line says, and how many words three weights are.
-use Rattle.std.proofs.Common.{◌≡◌, ℕ, ◌<◌, true, false, List, [], ◌∷◌, length, is_some, Some, None, codes, Option, sym, refl, arith}
-use Rattle.std.specs.Str.{bytes_eq}
+use Rattle.std.proofs.Common.{◌≡◌, ℕ, ◌<◌, true, List, [], ◌∷◌, length, is_some, Some, None, codes, Option, sym, refl, arith}
 use Rattle.std.proofs.lemmas.Bool.{true≢false}
-use Rattle.texts.specs.Lines.{asked, blank, command, letter_line, line_of, pair_line, three_weights}
+use Rattle.texts.specs.Lines.{asked, blank, command, line_of, three_weights}
 use Rattle.texts.specs.Parts.{behind_word, words, words_left}
 use Rattle.texts.proofs.Cutting.{parts_some}
 
