@@ -5,7 +5,7 @@ ghost use Rattle.table.specs.Valley.{valley, valley_list, valley_pair, valley_pa
 
 use crate::view::Table;
 
-// Three weights for each letter, letter after letter.
+// Three weights for each letter, letter after letter. What letter it is stands behind the first of its weights.
 static VALLEY_LETTERS: [u16; 768] = [
     0, // U+0000
     0, 1, 0, // U+0001
