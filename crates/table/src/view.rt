@@ -26,8 +26,7 @@ pub struct Table<'a> {
     ghost links: { ((k : ℕ) → k < count → slice_index chains.links k ≡ link_of pairs.now k) },
 }
 
-// What a check answers: why the numbers were turned away, or nothing and the view of them. (A `Result` of a view
-// with ghost fields is a form that the checker does not cover.)
+// What a check answers: why the numbers were turned away, or nothing and the view of them.
 #[derive(Clone, Copy)]
 pub struct Checked<'a> {
     pub refusal: Option<Refusal>,
