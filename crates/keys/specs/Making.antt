@@ -1,9 +1,10 @@
 -- What measuring and writing a key answer and leave.
-use Rattle.std.specs.Prelude.{◌≡◌, ℕ, ◌-◌, ◌^◌, ◌<◌, ◌≤◌, min, cond, List, ◌++◌, length, drop, Some, None, Ok, Err, Option, Result, nat_lt}
+use Rattle.std.specs.Prelude.{◌≡◌, ℕ, ◌-◌, ◌^◌, ◌<◌, ◌≤◌, min, cond, List, ◌++◌, length, drop, Some, None, Ok, Err, Result, nat_lt}
 use Rattle.table.specs.Rules.{Rules}
-use Rattle.keys.specs.declared.fault.KeyError.{KeyError}
-use Rattle.keys.specs.declared.fault.KeyError.TheVariants.{Refused, NoMemory}
-use Rattle.keys.specs.declared.fault.Short.{Short}
+use Rattle.table.specs.declared.fault.Failure.{Failure}
+use Rattle.table.specs.declared.fault.Failure.TheVariants.{Refused, NoMemory}
+use Rattle.keys.specs.declared.fault.NameRefusal.{NameRefusal}
+use Rattle.keys.specs.declared.sort_key.Short.{Short}
 use Rattle.keys.specs.Refusals.{name_refusal}
 use Rattle.keys.specs.Rows.{key}
 
@@ -11,9 +12,9 @@ use Rattle.keys.specs.Rows.{key}
 abbrev pub saturated : ℕ → ℕ
 saturated n = min n (2 ^ 64 - 1)
 
--- how many numbers a key of k needs, where room of so many is too short
-abbrev pub lacking : (k room : ℕ) → Option ℕ
-lacking k room = cond (nat_lt room k) (Some (saturated k)) None
+-- whether a key of k numbers fits into room of so many; else how many it needs
+abbrev pub fits : (k room : ℕ) → Result Unit Short
+fits k room = cond (nat_lt room k) (Err (record { needs = saturated k })) (Ok tt)
 
 -- a key written into room: it fits and stands in front, what is behind it being as it was; or it doesn't fit, and room is
 -- as it was
@@ -22,7 +23,7 @@ Written k room (Ok n) after = (n ≡ length k) × (length k ≤ length room) × 
 Written k room (Err short) after = (short.needs ≡ saturated (length k)) × (length room < length k) × (after ≡ room)
 
 -- a key made in memory of its own, whose items are the key; or why not
-abbrev pub Made : {V : Type 0} → Rules → (name : List ℕ) → (V → List ℕ) → Result V KeyError → Type 0
+abbrev pub Made : {V : Type 0} → Rules → (name : List ℕ) → (V → List ℕ) → Result V (Failure NameRefusal) → Type 0
 Made t n items (Ok v) = (name_refusal n ≡ None) × (items v ≡ key t n)
 Made t n items (Err (Refused why)) = name_refusal n ≡ Some why
 Made t n items (Err NoMemory) = name_refusal n ≡ None

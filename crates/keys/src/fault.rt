@@ -1,38 +1,14 @@
 // Why a key is not made.
-ghost use Rattle.std.proofs.Common.{rules};
-ghost use Rattle.std.specs.Cmp.Rules.{comparing};
-ghost use Rattle.std.specs.Ordering.{on};
-ghost use Rattle.std.specs.Prelude.{◌≡◌, ◌==◌, ◌↔◌, IsTrue};
+ghost use Rattle.std.specs.Prelude.{◌≡◌};
 ghost use Rattle.keys.specs.Refusals.{name_refusal, name_refusal_number, name_refusal_place};
-ghost use Rattle.keys.specs.declared.fault.KeyError.TheVariants.{NoMemory};
 
-use std::alloc::AllocError;
-use table::Table;
+use table::{Failure, Table};
 
 // Why a name is turned away.
-#[derive(Clone, Copy, Debug)]
+#[derive(Clone, Copy, PartialEq, Eq, Debug)]
 pub enum NameRefusal {
     // It has more than 1,000 letters: how many.
     TooLong(usize),
-}
-
-impl PartialEq for NameRefusal {
-    ghost eq = { on name_refusal_place ◌==◌ };
-
-    ghost laws = { Prim.search (comparing, rules) };
-
-    fn eq(&self, other: &NameRefusal) -> bool
-        ensures gives { result ≡ on name_refusal_place ◌==◌ self.now other.now }
-        ensures same { IsTrue result ↔ (self.now ≡ other.now) }
-    {
-        let NameRefusal::TooLong(letters) = *self;
-        let NameRefusal::TooLong(others) = *other;
-        letters == others
-    }
-}
-
-impl Eq for NameRefusal {
-    ghost laws = { Prim.search (comparing, rules) };
 }
 
 impl NameRefusal {
@@ -66,23 +42,4 @@ impl NameRefusal {
 }
 
 // Why a key was not made.
-#[derive(Clone, Copy, PartialEq, Eq, Debug)]
-pub enum KeyError {
-    Refused(NameRefusal),
-    NoMemory,
-}
-
-impl From<AllocError> for KeyError {
-    ghost from_gives = { λ _ r. r ≡ NoMemory };
-
-    fn from(_: AllocError) -> KeyError {
-        KeyError::NoMemory
-    }
-}
-
-// The room is too short for the key; nothing has been written.
-#[derive(Clone, Copy, PartialEq, Eq, Debug)]
-pub struct Short {
-    // How many numbers the key has.
-    pub needs: usize,
-}
+pub type KeyError = Failure<NameRefusal>;

@@ -8,6 +8,7 @@
 
 mod entry;
 mod fault;
+mod fill;
 mod laws;
 mod level;
 mod numbers;
@@ -15,9 +16,9 @@ mod row;
 mod sort_key;
 
 pub use entry::{Done, make_key};
-pub use fault::{KeyError, NameRefusal, Short};
+pub use fault::{KeyError, NameRefusal};
 pub use laws::key_laws;
 pub use level::Level;
 pub use numbers::KeyNumbers;
 pub use row::Row;
-pub use sort_key::SortKeys;
+pub use sort_key::{Short, SortKeys};

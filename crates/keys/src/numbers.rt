@@ -13,6 +13,7 @@ use table::Table;
 #[derive(Drop)]
 pub struct KeyNumbers<'a, 't, 'n> {
     row: Row<'a, 't, 'n>,
+    name: &'n [u8],
 }
 
 impl<'a, 't, 'n> KeyNumbers<'a, 't, 'n> {
@@ -22,6 +23,7 @@ impl<'a, 't, 'n> KeyNumbers<'a, 't, 'n> {
     {
         KeyNumbers {
             row: Row::new(table, Level::Primary, name),
+            name,
         }
     }
 }
@@ -38,7 +40,7 @@ impl Iterator for KeyNumbers<'_, '_, '_> {
             Some(weight) => Some(weight),
             None => {
                 self.row.level = self.row.level.behind()?;
-                self.row.from = 0;
+                self.row.rest = self.name;
                 Some(0)
             }
         }

@@ -1,15 +1,22 @@
 // Sort keys of names under a checked table.
-ghost use Rattle.std.specs.Prelude.{◌≡◌, ◌-◌, ◌^◌, ◌<◌, ◌≤◌, ◌++◌, length, drop, IfOk, vec_items};
-ghost use Rattle.keys.specs.Making.{Made, Written, lacking, saturated};
-ghost use Rattle.keys.specs.Reading.{numbers_left};
+ghost use Rattle.std.specs.Prelude.{◌≡◌, ◌-◌, ◌^◌, ◌<◌, length, vec_items};
+ghost use Rattle.keys.specs.Making.{Made, Written, fits, saturated};
 ghost use Rattle.keys.specs.Rows.{key};
 ghost use Rattle.table.specs.Meaning.{rules_of};
 ghost use Rattle.table.specs.Rules.{Rules};
 
-use crate::fault::{KeyError, NameRefusal, Short};
+use crate::fault::{KeyError, NameRefusal};
+use crate::fill::fill;
 use crate::numbers::KeyNumbers;
-use std::alloc::{AllocError, Global};
+use std::alloc::Global;
 use table::Table;
+
+// The room is too short for the key; nothing has been written.
+#[derive(Clone, Copy, PartialEq, Eq, Debug)]
+pub struct Short {
+    // How many numbers the key has.
+    pub needs: usize,
+}
 
 // What a table does with names.
 pub trait SortKeys {
@@ -32,17 +39,11 @@ impl SortKeys for Table<'_> {
     ghost rules = { rules_of };
 
     fn key_len(&self, name: &[u8]) -> usize {
-        let mut n = 0usize;
-        for _ in KeyNumbers::new(self, name) {
-            n = n.saturating_add(1);
-        }
-        n
+        KeyNumbers::new(self, name).fold(0usize, |n, _| n.saturating_add(1))
     }
 
     fn write_key(&self, name: &[u8], room: &mut [u32]) -> Result<usize, Short> {
-        if let Some(needs) = shortage(self, name, room.len()) {
-            return Err(Short { needs });
-        }
+        has_room(self, name, room.len())?;
         Ok(fill(KeyNumbers::new(self, name), room))
     }
 
@@ -50,44 +51,24 @@ impl SortKeys for Table<'_> {
         if let Some(why) = NameRefusal::of(name) {
             return Err(KeyError::Refused(why));
         }
-        Ok(gather(heap, KeyNumbers::new(self, name), 3 * name.len() + 2)?)
+        let mut key = Vec::with_capacity(heap, 3 * name.len() + 2)?;
+        key.extend(KeyNumbers::new(self, name))?;
+        Ok(key)
     }
 }
 
-// How many numbers a name's key has, where `room` is too few. A key has at most three numbers for each letter and two
-// between, so it is only measured where that may be too many.
-pub(crate) fn shortage(table: &Table, name: &[u8], room: usize) -> Option<usize>
+// Whether a name's key fits into so much room. A key has at most three numbers for each letter and two between, so it is
+// only measured where that may be too many.
+pub(crate) fn has_room(table: &Table, name: &[u8], room: usize) -> Result<(), Short>
     requires { room < 2 ^ 64 - 1 }
-    ensures { result ≡ lacking (length (key (rules_of table.now) name.now)) room }
+    ensures { result ≡ fits (length (key (rules_of table.now) name.now)) room }
 {
     if room >= 2 && name.len() <= (room - 2) / 3 {
-        return None;
+        return Ok(());
     }
     let needs = table.key_len(name);
-    if needs > room { Some(needs) } else { None }
-}
-
-// The numbers of a key, written into the front of `room`.
-fn fill(numbers: KeyNumbers, room: &mut [u32]) -> usize
-    requires { length (numbers_left numbers) ≤ length room.old }
-    ensures count { result ≡ length (numbers_left numbers.entry) }
-    ensures room { room.new ≡ numbers_left numbers.entry ++ drop result room.old }
-{
-    let mut n = 0;
-    for number in numbers {
-        room[n] = number;
-        n += 1;
+    if needs > room {
+        return Err(Short { needs });
     }
-    n
-}
-
-// The numbers of a key in memory of their own, which holds `room` numbers before it grows.
-fn gather(heap: Global, numbers: KeyNumbers, room: usize) -> Result<Vec<u32>, AllocError>
-    ensures { IfOk result (λ v. v.items ≡ numbers_left numbers.entry) }
-{
-    let mut gathered = Vec::with_capacity(heap, room)?;
-    for number in numbers {
-        gathered.push(number)?;
-    }
-    Ok(gathered)
+    Ok(())
 }

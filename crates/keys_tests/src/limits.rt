@@ -46,24 +46,12 @@ fn longest_name(rt: HostRuntime) {
 fn made_in_memory(rt: HostRuntime) -> Result<(), Fail> {
     let table = Table::valley();
     let name = [b'\''; 1001];
-    match table.sort_key(rt.alloc(), &name[0..1000]) {
-        Ok(made) => assert_eq!(rt; made.len(), 2002),
-        Err(_) => assert!(rt; false),
-    }
-    match table.sort_key(rt.alloc(), &name) {
-        Err(KeyError::Refused(why)) => {
-            assert_eq!(rt; why.place(), 1001);
-            Ok(())
-        },
-        Ok(_) => {
-            assert!(rt; false);
-            Ok(())
-        },
-        Err(KeyError::NoMemory) => {
-            assert!(rt; false);
-            Ok(())
-        },
-    }
+    assert_eq!(rt; table.sort_key(rt.alloc(), &name[0..1000])?.len(), 2002);
+    assert_eq!(rt;
+        table.sort_key(rt.alloc(), &name).err(),
+        Some(KeyError::Refused(NameRefusal::TooLong(1001)))
+    );
+    Ok(())
 }
 
 // The table is looked at before the name, and both before the room.
@@ -97,24 +85,12 @@ fn order_of_checks(rt: HostRuntime) {
 fn any_bytes(rt: HostRuntime) -> Result<(), Fail> {
     let heap = rt.alloc();
     let mut own = TableBuf::new(heap)?;
-    own.set_letter(
-        1,
-        Weights {
-            primary: 7,
-            secondary: 8,
-            tertiary: 9,
-        },
-    );
-    let added = own.add_pair(Pair {
+    own.set_letter(1, Weights::from([7, 8, 9]));
+    own.add_pair(Pair {
         first: 0,
         second: 0,
-        weights: Weights {
-            primary: 0,
-            secondary: 0,
-            tertiary: 0,
-        },
-    });
-    assert!(rt; added.is_ok());
+        weights: Weights::from([0, 0, 0]),
+    })?;
     let mut name = vec![in heap; 0u8; 20000001]?;
     assert_eq!(rt; Table::valley().key_len(name.as_slice()), 20000003);
     name[20000000] = 1;

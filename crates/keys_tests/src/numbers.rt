@@ -1,5 +1,5 @@
 // Which numbers a name's key has.
-use keys::{KeyNumbers, Level, Row, SortKeys};
+use keys::{KeyError, KeyNumbers, Level, Row, SortKeys};
 use std::alloc::Global;
 use std::process::Abort;
 use std::test::Fail;
@@ -10,27 +10,17 @@ use table::{Pair, Table, TableBuf, Weights};
 struct Case(&'static [u8], &'static [u32]);
 
 // The numbers come one after the other, are as many as measured, and are those that are made.
-fn hold(rt: &impl Abort, heap: Global, table: &Table, cases: &[Case]) {
+fn hold(rt: &impl Abort, heap: Global, table: &Table, cases: &[Case]) -> Result<(), KeyError> {
     for case in cases {
-        let mut at = 0usize;
-        for number in KeyNumbers::new(table, case.0) {
-            assert!(rt; at < case.1.len());
-            if at < case.1.len() {
-                assert_eq!(rt; number, case.1[at]);
-            }
-            at = at.saturating_add(1);
-        }
-        assert_eq!(rt; at, case.1.len());
+        assert!(rt; KeyNumbers::new(table, case.0).eq(case.1.iter().copied()));
         assert_eq!(rt; table.key_len(case.0), case.1.len());
-        match table.sort_key(heap, case.0) {
-            Ok(made) => assert!(rt; made.as_slice() == case.1),
-            Err(_) => assert!(rt; false),
-        }
+        assert!(rt; table.sort_key(heap, case.0)?.as_slice() == case.1);
     }
+    Ok(())
 }
 
 #[test]
-fn valley(rt: HostRuntime) {
+fn valley(rt: HostRuntime) -> Result<(), Fail> {
     hold(
         &rt,
         rt.alloc(),
@@ -48,12 +38,13 @@ fn valley(rt: HostRuntime) {
             Case(b"z", &[260, 0, 1, 0, 1]),
             Case(b"CH", &[30, 80, 0, 1, 1, 0, 2, 2]),
         ],
-    );
+    )?;
+    Ok(())
 }
 
 // A pair is taken where it is met from the left, never from the right or within another.
 #[test]
-fn pairs_from_the_left(rt: HostRuntime) {
+fn pairs_from_the_left(rt: HostRuntime) -> Result<(), Fail> {
     hold(
         &rt,
         rt.alloc(),
@@ -68,15 +59,8 @@ fn pairs_from_the_left(rt: HostRuntime) {
             Case(b"c", &[30, 0, 1, 0, 1]),
             Case(b"hc", &[80, 30, 0, 1, 1, 0, 1, 1]),
         ],
-    );
-}
-
-fn weigh(primary: u16, secondary: u16, tertiary: u16) -> Weights {
-    Weights {
-        primary,
-        secondary,
-        tertiary,
-    }
+    )?;
+    Ok(())
 }
 
 // Pairs that lap over each other, a pair that counts on one level only, and the largest weight.
@@ -84,29 +68,19 @@ fn weigh(primary: u16, secondary: u16, tertiary: u16) -> Weights {
 fn own_table(rt: HostRuntime) -> Result<(), Fail> {
     let heap = rt.alloc();
     let mut own = TableBuf::new(heap)?;
-    own.set_letter(b'a', weigh(1, 2, 3));
-    own.set_letter(b'b', weigh(0, 0, 65535));
-    let added = [
+    own.set_letter(b'a', Weights::from([1, 2, 3]));
+    own.set_letter(b'b', Weights::from([0, 0, 65535]));
+    for (first, second, weights) in [
+        (97, 97, [0, 7, 0]),
+        (97, 98, [9, 0, 0]),
+        (98, 98, [0, 0, 0]),
+    ] {
         own.add_pair(Pair {
-            first: 97,
-            second: 97,
-            weights: weigh(0, 7, 0),
-        })
-        .is_ok(),
-        own.add_pair(Pair {
-            first: 97,
-            second: 98,
-            weights: weigh(9, 0, 0),
-        })
-        .is_ok(),
-        own.add_pair(Pair {
-            first: 98,
-            second: 98,
-            weights: weigh(0, 0, 0),
-        })
-        .is_ok(),
-    ];
-    assert!(rt; added[0] && added[1] && added[2]);
+            first,
+            second,
+            weights: Weights::from(weights),
+        })?;
+    }
     hold(
         &rt,
         heap,
@@ -123,7 +97,7 @@ fn own_table(rt: HostRuntime) -> Result<(), Fail> {
             Case(b"bbba", &[1, 0, 2, 0, 65535, 3]),
             Case(b"cd", &[0, 0]),
         ],
-    );
+    )?;
     Ok(())
 }
 

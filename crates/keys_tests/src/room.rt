@@ -51,7 +51,7 @@ fn entry(rt: HostRuntime) {
     ];
     for case in &cases {
         let mut room = [777u16; 16];
-        let lent = if case.1 < 16 { case.1 } else { 16 };
+        let lent = case.1.min(16);
         assert_eq!(rt;
             make_key(
                 valley_letters(),
@@ -62,9 +62,8 @@ fn entry(rt: HostRuntime) {
             ),
             case.2
         );
-        for i in 0..16 {
-            let there = if i < case.3.len() { case.3[i] } else { 777 };
-            assert_eq!(rt; room[i], there);
+        for (number, there) in room.iter().zip(case.3.iter().chain(&[777; 16])) {
+            assert_eq!(rt; *number, *there);
         }
     }
 }

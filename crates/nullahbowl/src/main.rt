@@ -10,8 +10,8 @@ use session::{Session, TakeError};
 use std::io::{BufWriter, Read, Write};
 use std::process::ExitCode;
 use std::{env, fs, io};
-use table::Table;
-use texts::{Command, Fault, Numbers, first_part};
+use table::{Table, Weights};
+use texts::{Command, Fault, Numbers, Parts};
 
 const HELP: &str =
     "usage: nullahbowl [FILE ..]\n\nReads lines from the files, or from standard input where none is named or the name is -:\n\n  letter X a b c     the letter X weighs a, b and c\n  pair X Y a b c     the letters X and Y are one together, and weigh a, b and c\n  key X              writes the sort key of the name X\n\nWhere no key is asked for, writes the table that the lines make. What is turned away is said on standard error.\n";
@@ -31,18 +31,15 @@ fn run(rt: &HostRuntime) -> anyhow::Result<usize> {
         return Ok(0);
     }
     let mut session = Session::new(rt.alloc())?;
-    let mut tally = Tally {
-        faults: 0,
-        asked: 0,
-    };
-    let mut named = false;
+    let mut read = None;
     for name in env::args(rt)?.skip(1) {
-        named = true;
-        tally = tally.and(read_named(rt, &mut session, name.as_str())?);
+        let before: Tally = read.unwrap_or_default();
+        read = Some(before.and(read_named(rt, &mut session, name.as_str())?));
     }
-    if !named {
-        tally = read_named(rt, &mut session, "-")?;
-    }
+    let tally = match read {
+        Some(tally) => tally,
+        None => read_named(rt, &mut session, "-")?,
+    };
     if tally.asked == 0 {
         write_table(rt, &session.table())?;
     }
@@ -50,16 +47,11 @@ fn run(rt: &HostRuntime) -> anyhow::Result<usize> {
 }
 
 fn asks_help(rt: &HostRuntime) -> anyhow::Result<bool> {
-    for name in env::args(rt)?.skip(1) {
-        if name.as_str() == "--help" {
-            return Ok(true);
-        }
-    }
-    Ok(false)
+    Ok(env::args(rt)?.skip(1).any(|name| name.as_str() == "--help"))
 }
 
 // How much was turned away, and how many keys were asked for.
-#[derive(Clone, Copy)]
+#[derive(Clone, Copy, Default)]
 struct Tally {
     faults: usize,
     asked: usize,
@@ -109,15 +101,9 @@ fn read_text(
     text: &[u8],
 ) -> anyhow::Result<Tally> {
     let mut out = BufWriter::new(rt.alloc(), rt.stdout())?;
-    let mut tally = Tally {
-        faults: 0,
-        asked: 0,
-    };
-    let mut place = 0usize;
-    let mut rest = Some(text);
-    while let Some(left) = rest {
-        let cut = first_part(left, b'\n');
-        match session.take(rt.alloc(), cut.part, place) {
+    let mut tally = Tally::default();
+    for (place, line) in Parts::new(text, b'\n').enumerate() {
+        match session.take(rt.alloc(), line, place) {
             Ok(None) => {}
             Ok(Some(key)) => {
                 let numbers = Numbers(key.as_slice());
@@ -138,8 +124,6 @@ fn read_text(
                 return Err(anyhow!("there is not enough memory"));
             }
         }
-        rest = cut.rest;
-        place += 1;
     }
     out.flush()?;
     Ok(tally)
@@ -150,19 +134,17 @@ fn write_table(rt: &HostRuntime, table: &Table) -> anyhow::Result<()> {
     let mut out = BufWriter::new(rt.alloc(), rt.stdout())?;
     let mut letters = 0usize;
     for letter in 0..=255u8 {
-        let w = table.letter(letter);
-        if w.primary != 0 || w.secondary != 0 || w.tertiary != 0 {
-            let command = Command::SetLetter(letter, w);
+        let weights = table.letter(letter);
+        if weights != Weights::from([0, 0, 0]) {
+            let command = Command::SetLetter(letter, weights);
             writeln!(out, "{command}")?;
             letters += 1;
         }
     }
     let pairs = table.pair_count();
-    for place in 0..pairs {
-        if let Some(pair) = table.pair_at(place) {
-            let command = Command::AddPair(pair);
-            writeln!(out, "{command}")?;
-        }
+    for pair in (0..pairs).filter_map(|place| table.pair_at(place)) {
+        let command = Command::AddPair(pair);
+        writeln!(out, "{command}")?;
     }
     writeln!(
         out,

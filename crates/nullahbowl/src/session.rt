@@ -1,28 +1,25 @@
 // What the lines read so far make.
 ghost use Rattle.std.specs.Prelude.{◌≡◌, IfOk, vec_items};
-ghost use Rattle.nullahbowl.specs.Sessions.{Fresh, KeyAnswered, PairTaken, Taken, session_pairs, session_rules};
+ghost use Rattle.nullahbowl.specs.Sessions.{Fresh, KeyAnswered, PairTaken, Restated, Taken, session_pairs, session_rules};
 ghost use Rattle.table.specs.Meaning.{pairs_of, rules_of};
 ghost use Rattle.texts.specs.Lines.{line_of};
 ghost use Rattle.texts.specs.Parts.{without_return};
 
-use keys::{KeyError, SortKeys};
+use keys::SortKeys;
 use std::alloc::{AllocError, Global};
-use table::{AddError, Pair, Table, TableBuf};
+use table::{Failure, Pair, Table, TableBuf};
 use texts::{Command, Fault, Line, without_return};
 
 #[derive(Drop)]
 pub struct Session {
     table: TableBuf,
-    // Whether a line has set a letter or added a pair.
+    // Whether a line has set a letter or added a pair. Beside the table, and not an `Option` of it, since a table that is
+    // made by the first such line would want memory for it, and setting a letter wants none.
     own: bool,
 }
 
-// Why a line was not taken; nothing has changed then.
-#[derive(Clone, Copy)]
-pub enum TakeError {
-    Refused(Fault),
-    NoMemory,
-}
+// Why a line was not taken.
+pub type TakeError = Failure<Fault>;
 
 impl Session {
     // Nothing has been taken yet.
@@ -73,24 +70,26 @@ impl Session {
     fn add(&mut self, pair: Pair) -> Result<Option<Vec<u32>>, TakeError>
         ensures { PairTaken self.old pair result self.new }
     {
-        match self.table.add_pair(pair) {
-            Ok(()) => {
-                self.own = true;
-                Ok(None)
-            }
-            Err(AddError::Refused(why)) => Err(TakeError::Refused(Fault::Table(why))),
-            Err(AddError::NoMemory) => Err(TakeError::NoMemory),
-        }
+        self.table.add_pair(pair).map_err(restated)?;
+        self.own = true;
+        Ok(None)
     }
 
     // The sort key of a name under the table as it is.
     fn key(&self, heap: Global, name: &[u8]) -> Result<Option<Vec<u32>>, TakeError>
         ensures { KeyAnswered (session_rules self.now) name.now vec_items result }
     {
-        match self.table().sort_key(heap, name) {
-            Ok(key) => Ok(Some(key)),
-            Err(KeyError::Refused(why)) => Err(TakeError::Refused(Fault::Name(why))),
-            Err(KeyError::NoMemory) => Err(TakeError::NoMemory),
-        }
+        let key = self.table().sort_key(heap, name).map_err(restated)?;
+        Ok(Some(key))
+    }
+}
+
+// The same failure, with what was turned away in the words of lines.
+fn restated<R: Into<Fault>>(failure: Failure<R>) -> TakeError
+    ensures { Restated R.converts failure result }
+{
+    match failure {
+        Failure::Refused(why) => Failure::Refused(why.into()),
+        Failure::NoMemory => Failure::NoMemory,
     }
 }

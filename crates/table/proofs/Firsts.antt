@@ -1,5 +1,6 @@
 -- The first place that passes a test, met by going through the places in turn.
-use Rattle.std.proofs.Common.{◌≡◌, ℕ, zero, suc, ◌+◌, ◌<◌, Bool, true, false, Some, None, refl, add-one, arith}
+use Rattle.std.proofs.Common.{◌≡◌, ℕ, zero, suc, ◌+◌, ◌<◌, ◌≤◌, Bool, true, false, Some, None, Option, refl, add-one, arith}
+use Rattle.std.specs.Option.{MatchOption}
 use Rattle.std.proofs.lemmas.Bool.{cases_eq}
 use Rattle.table.specs.Refusals.{first_place}
 
@@ -21,3 +22,15 @@ module _ (test : ℕ → Bool) where
   unfolding first_place
   none_at zero e k l = absurd (omega arith)
   none_at (suc n) e k l = let ih = none_at n in grind arith
+
+  none_below : (n : ℕ) → ((k : ℕ) → k < n → test k ≡ false) → first_place test n ≡ None
+  unfolding first_place
+  none_below zero h = refl
+  none_below (suc n) h = let ih = none_below n (λ k l. h k (omega arith)) in let e = h n (omega arith) in grind arith
+
+  -- what looking through the places from the first on finds
+  pub looked_through : (n : ℕ) (r : Option ℕ) →
+      MatchOption r ((k : ℕ) → 0 ≤ k → k < n → test k ≡ false) (λ i. (0 ≤ i) × (i < n) × (test i ≡ true) × ((k : ℕ) → 0 ≤ k → k < i → test k ≡ false)) →
+      first_place test n ≡ r
+  looked_through n None h = none_below n (λ k l. h k (omega arith) l)
+  looked_through n (Some i) h = first_is i (none_below i (λ k l. h.3 k (omega arith) l)) h.2 n h.1

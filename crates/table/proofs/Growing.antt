@@ -1,5 +1,5 @@
 -- One pair more behind the others.
-use Rattle.std.proofs.Common.{◌≡◌, ℕ, zero, suc, ◌+◌, ◌-◌, ◌*◌, ◌<◌, ◌≤◌, Bool, true, false, cond, ◌&&◌, ◌||◌, eqb, ltb, leb, List, [], ◌∷◌, ◌++◌, length, get_or, is_some, Some, None, Option, sym, refl, ap, ◌∙◌, ap₂, add-one, arith}
+use Rattle.std.proofs.Common.{◌≡◌, ℕ, zero, suc, ◌+◌, ◌-◌, ◌*◌, ◌/◌, ◌<◌, ◌≤◌, Bool, true, false, cond, ◌&&◌, ◌||◌, eqb, ltb, leb, List, [], ◌∷◌, ◌++◌, length, get_or, is_some, Some, None, Option, sym, refl, ap, ◌∙◌, ap₂, add-one, arith}
 use Rattle.std.specs.Option.{option_or}
 use Rattle.std.proofs.lemmas.List.FromFn.{length-map-range_with_len, get_or-map-range_with_len, map-range_with_len_more}
 use Rattle.std.proofs.lemmas.List.{ext_get_or, length-append, get_or_append_left, get_or-append_right}
@@ -12,6 +12,7 @@ use Rattle.table.specs.Numbers.{weights_at, first_at, second_at, pair_at, pairs_
 use Rattle.table.specs.Refusals.{first_place, foreign, repeated, refusal_of, at_place}
 use Rattle.table.specs.Rules.{same_run, joins_in, weighs_in, rules_in, with_pair, weights_of}
 use Rattle.table.proofs.Places.{place_below}
+use Rattle.table.proofs.Refusing.{sound}
 use Rattle.table.proofs.Saying.{same_rules, same_weights}
 
 first_alike : (f g : ℕ → Bool) (n : ℕ) → ((k : ℕ) → k < n → f k ≡ g k) → first_place f n ≡ first_place g n
@@ -154,3 +155,22 @@ module _ (ps : List ℕ) (n : ℕ) (p : Pair) (fives : length ps ≡ 5 * n) wher
             option_or (cond (ltb 200 (n + 1)) (Some TooMany) None) (at_place Foreign (cond x (Some n) None) (at_place Twice (cond y (Some n) None) None))
             ≡ cond (leb 200 n) (Some TooMany) (cond x (Some (Foreign n)) (cond y (Some (Twice n)) None))
         go x y e = rw e (at (leb 200 n) x y)
+
+-- the same of numbers that are a table, of which each five is a pair
+module _ (ls ps : List ℕ) (p : Pair) (kept : refusal_of ls ps (length ps / 5) ≡ None) where
+  fifth_more : length (ps ++ numbers_of p) / 5 ≡ length ps / 5 + 1
+  fifth_more = let l = length-append ps (numbers_of p) in omega arith
+
+  pub rules_added : rules_in ls (ps ++ numbers_of p) (length (ps ++ numbers_of p) / 5) ≡ with_pair (rules_in ls ps (length ps / 5)) p
+  rules_added = let s = sound ls ps _ kept in let e = fifth_more in rw e (rules_more ps _ p s.fives ls)
+
+  pub pairs_added : pairs_in (ps ++ numbers_of p) (length (ps ++ numbers_of p) / 5) ≡ pairs_in ps (length ps / 5) ++ p ∷ []
+  pairs_added = let s = sound ls ps _ kept in let e = fifth_more in rw e (pairs_more ps _ p s.fives)
+
+  -- whether it was added or not
+  pub kept_after : (qs : List ℕ) (done : Bool) → qs ≡ cond done (ps ++ numbers_of p) ps → pair_refusal (rules_in ls ps (length ps / 5)) (length ps / 5) p ≡ None → refusal_of ls qs (length qs / 5) ≡ None
+  kept_after qs true q e =
+      let s = sound ls ps _ kept in
+      let m = fifth_more in
+      rw (q, m) (refusal_more ps _ p s.fives ls s.whole s.known s.apart ∙ e)
+  kept_after qs false q e = rw q kept

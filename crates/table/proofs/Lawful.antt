@@ -77,7 +77,7 @@ module _ (test : ℕ → Bool) where
 
 pub exactly_tables : ExactlyTables
 exactly_tables ls ps n = (
-  λ e. let s = sound ls ps n (ap is_some e) in record {
+  λ e. let s = sound ls ps n e in record {
     whole = s.whole;
     fives = s.fives;
     few = s.few;
@@ -145,4 +145,4 @@ just_pairs ls ps n t = (
 )
 
 pub same_refusal : SameRefusal
-same_refusal ls ps n p e = let s = sound ls ps n (ap is_some e) in refusal_more ps n p s.fives ls s.whole s.known s.apart
+same_refusal ls ps n p e = let s = sound ls ps n e in refusal_more ps n p s.fives ls s.whole s.known s.apart

@@ -6,5 +6,4 @@ pub mod Saying
 pub mod Valleys
 pub mod Setting
 pub mod Growing
-pub mod Denying
 pub mod Lawful

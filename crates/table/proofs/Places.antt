@@ -1,11 +1,13 @@
 -- What the place of a pair says.
-use Rattle.std.proofs.Common.{◌≡◌, ℕ, zero, suc, ◌<◌, ◌≤◌, false, List, Some, None, ap, ◌∙◌, arith}
+use Rattle.std.proofs.Common.{◌≡◌, ℕ, zero, suc, ◌+◌, ◌*◌, ◌<◌, ◌≤◌, false, cond, List, [], ◌∷◌, Some, None, Option, is_some, refl, ap, ◌∙◌, arith}
 use Rattle.std.proofs.lemmas.Bool.{ltb-false, or_parts}
 use Rattle.std.specs.List.{slice_get}
+use Rattle.std.specs.Option.{option_map}
 use Rattle.std.proofs.lemmas.List.FromFn.{length-map-range_with_len, get_or-map-range_with_len}
 use Rattle.std.proofs.lemmas.Option.{slice_get-get_or, slice_get_past}
-use Rattle.table.specs.Numbers.{first_at, second_at, pair_at, pairs_in, place_in}
+use Rattle.table.specs.Numbers.{first_at, second_at, pair_at, pairs_in, place_in, weights_at}
 use Rattle.table.specs.Refusals.{foreign}
+use Rattle.table.specs.Rules.{contraction, joins_in, rules_in, weighs_in, weights_of}
 
 pub place_below : (ps : List ℕ) (n a b k : ℕ) → place_in ps n a b ≡ Some k → k < n
 unfolding place_in
@@ -27,3 +29,12 @@ nth_pair ps n k l =
 
 pub nth_none : (ps : List ℕ) (n k : ℕ) → n ≤ k → slice_get (pairs_in ps n) k ≡ None
 nth_none ps n k l = let e = length-map-range_with_len (pair_at ps) 0 n in slice_get_past (pairs_in ps n) k (omega arith)
+
+-- what two letters weigh as one, by the place of their pair
+pub contracts : (ls ps : List ℕ) (n a b : ℕ) → contraction (rules_in ls ps n) (a ∷ (b ∷ [])) ≡ option_map (λ k. weights_at ps (5 * k + 2)) (place_in ps n a b)
+unfolding joins_in weighs_in
+contracts ls ps n a b = go (place_in ps n a b)
+  where
+    go : (o : Option ℕ) → cond (is_some o) (Some (weights_of ps o)) None ≡ option_map (λ k. weights_at ps (5 * k + 2)) o
+    go None = refl
+    go (Some k) = refl

@@ -1,11 +1,13 @@
 -- Which refusal it is, one test after the other.
-use Rattle.std.proofs.Common.{◌≡◌, ℕ, ◌*◌, ◌<◌, ◌≤◌, false, ◌⊎◌, List, length, is_some, Some, None, Option, refl, inl, inr, ⊎_elim, arith}
+use Rattle.std.proofs.Common.{◌≡◌, ℕ, ◌*◌, ◌<◌, ◌≤◌, ◌/◌, ◌⊎◌, List, length, Some, None, Ok, Err, Option, Result, IsErrAnd, is_some, sym, ap, ◌∙◌, refl, inl, inr, ⊎_elim, arith}
 use mathlib.Core.Path.{subst⁻¹}
 use Rattle.std.proofs.lemmas.Bool.{eq-eqb, ne_eqb, lt-ltb, le-ltb, cases_eq, cases_lt, true≢false}
 use Rattle.std.proofs.lemmas.Bool.Decides.{nat_tests}
 use Rattle.table.specs.declared.fault.Refusal.{Refusal}
 use Rattle.table.specs.declared.fault.Refusal.TheVariants.{Letters, Shape, TooMany, Foreign, Twice}
-use Rattle.table.specs.Refusals.{first_place, foreign, repeated, refusal_of, shape_refusal}
+use Rattle.table.specs.Refusals.{at_place, first_place, foreign, repeated, refusal_of, shape_refusal, verdict}
+use Rattle.table.specs.declared.view.Table.{Table}
+use Rattle.table.specs.Meaning.{Checked}
 
 module _ (ls ps : List ℕ) (n : ℕ) where
   pub wrong_letters : (length ls ≡ 768 → ⊥) → refusal_of ls ps n ≡ Some Letters
@@ -80,12 +82,38 @@ module _ (ls ps : List ℕ) (n : ℕ) (P : Option Refusal → Type 0) where
       (λ l. subst⁻¹ P (wrong_letters ls ps n l) a)
       (cases_eq (length ls) 768)
 
-pub sound : (ls ps : List ℕ) (n : ℕ) → is_some (refusal_of ls ps n) ≡ false → Sound ls ps n
+pub some_is_not_none : (why : Refusal) → ◌≡◌ {A = Option Refusal} (Some why) None → ⊥
+some_is_not_none why e = true≢false (ap is_some e)
+
+pub sound : (ls ps : List ℕ) (n : ℕ) → refusal_of ls ps n ≡ None → Sound ls ps n
 sound ls ps n =
-    by_refusal ls ps n (λ o. is_some o ≡ false → Sound ls ps n) (λ e. absurd (true≢false e)) (λ e. absurd (true≢false e)) (λ e. absurd (true≢false e))
-    (λ k q e. absurd (true≢false e)) (λ k q r e. absurd (true≢false e)) (λ s e. s)
+    by_refusal ls ps n (λ o. o ≡ None → Sound ls ps n) (λ e. absurd (some_is_not_none _ e)) (λ e. absurd (some_is_not_none _ e)) (λ e. absurd (some_is_not_none _ e))
+    (λ k q e. absurd (some_is_not_none _ e)) (λ k q r e. absurd (some_is_not_none _ e)) (λ s e. s)
 
 -- the letters count only by how many numbers they are
 pub refusal_letters : (ls ms ps : List ℕ) (n : ℕ) → length ms ≡ length ls → refusal_of ms ps n ≡ refusal_of ls ps n
 unfolding refusal_of
 refusal_letters ls ms ps n e = rw e
+
+-- what a verdict says of the refusal
+pub turned_away : (o : Option Refusal) (why : Refusal) → Err why ≡ verdict o → o ≡ Some why
+turned_away None why e = grind arith
+turned_away (Some w) why e = grind arith
+
+pub taken : (o : Option Refusal) → Ok tt ≡ verdict o → o ≡ None
+taken None e = refl
+taken (Some w) e = grind arith
+
+-- so many pairs as there are fives
+pub fifth : (m n : ℕ) → m ≡ 5 * n → m / 5 ≡ n
+fifth m n e = omega arith
+
+-- where the letters are known, what is left to find is a pair that is there twice
+pub twice_left : (ls ps : List ℕ) (n : ℕ) → shape_refusal (length ls) (length ps) n ≡ None → first_place (foreign ps) n ≡ None →
+    refusal_of ls ps n ≡ at_place Twice (first_place (repeated ps) n) None
+unfolding refusal_of
+twice_left ls ps n e f = rw (e, f)
+
+pub refused : (ls ps : List ℕ) (n : ℕ) (why : Refusal) (r : Result Table Refusal) → IsErrAnd r (λ e. e ≡ why) → refusal_of ls ps n ≡ Some why → Checked ls ps n r
+refused ls ps n why (Ok t) h e = absurd h
+refused ls ps n why (Err w) h e = e ∙ ap Some (sym h)

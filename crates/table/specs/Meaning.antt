@@ -1,14 +1,32 @@
--- What a table that the program holds says.
-use Rattle.std.specs.Prelude.{List}
+-- What a table that the program holds says, and what checking lent numbers answers.
+use Rattle.std.specs.Prelude.{◌≡◌, ℕ, ◌/◌, List, length, Some, None, Ok, Err, Result}
+use Rattle.table.specs.declared.fault.Refusal.{Refusal}
+use Rattle.table.specs.declared.fault.Refusal.TheVariants.{Twice}
+use Rattle.table.specs.declared.pairs.Pairs.{Pairs}
 use Rattle.table.specs.declared.piece.Pair.{Pair}
 use Rattle.table.specs.declared.view.Table.{Table}
 use Rattle.table.specs.Numbers.{pairs_in}
+use Rattle.table.specs.Refusals.{at_place, first_place, refusal_of, repeated}
 use Rattle.table.specs.Rules.{Rules, rules_in}
 
 -- its rules
 abbrev pub rules_of : Table → Rules
-rules_of t = rules_in t.letters.now t.pairs.now t.count
+rules_of t = rules_in t.letters.now t.pairs.numbers.now t.pairs.count
 
 -- its pairs, in the order of their places
 abbrev pub pairs_of : Table → List Pair
-pairs_of t = pairs_in t.pairs.now t.count
+pairs_of t = pairs_in t.pairs.numbers.now t.pairs.count
+
+-- the first n of these pairs are chained
+abbrev pub AreChained : List ℕ → (n : ℕ) → Pairs → Type 0
+AreChained ps n p = (p.numbers.now ≡ ps) × (p.count ≡ n)
+
+-- all are, or the first that equals an earlier one is told
+abbrev pub AllChained : List ℕ → Result Pairs Refusal → Type 0
+AllChained ps (Ok p) = AreChained ps (length ps / 5) p
+AllChained ps (Err why) = at_place Twice (first_place (repeated ps) (length ps / 5)) None ≡ Some why
+
+-- numbers are a table, which says what they say; or they are turned away
+abbrev pub Checked : (letters pairs : List ℕ) → (n : ℕ) → Result Table Refusal → Type 0
+Checked ls ps n (Ok t) = (refusal_of ls ps n ≡ None) × (rules_of t ≡ rules_in ls ps n) × (pairs_of t ≡ pairs_in ps n)
+Checked ls ps n (Err why) = refusal_of ls ps n ≡ Some why

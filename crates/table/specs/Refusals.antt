@@ -1,5 +1,5 @@
 -- Why numbers are turned away: which refusal, its number and its place.
-use Rattle.std.specs.Prelude.{ℕ, zero, suc, ◌*◌, Bool, cond, not, ◌||◌, List, length, is_some, Some, None, Option, ◌==◌, nat_lt}
+use Rattle.std.specs.Prelude.{ℕ, zero, suc, ◌*◌, Bool, cond, not, ◌||◌, List, length, is_some, Some, None, Ok, Err, Option, Result, ◌==◌, nat_lt}
 use Rattle.std.specs.Option.{option_or}
 use Rattle.table.specs.declared.fault.Refusal.{Refusal}
 use Rattle.table.specs.declared.fault.Refusal.TheVariants.{Letters, Shape, TooMany, Foreign, Twice}
@@ -38,6 +38,10 @@ foreign ps k = unknown (first_at ps k) (second_at ps k)
 abbrev pub repeated : List ℕ → ℕ → Bool
 repeated ps k = is_some (place_in ps k (first_at ps k) (second_at ps k))
 
+-- the letters of a pair, where none is above 255
+abbrev pub known_letters : ℕ → ℕ → Option (ℕ × ℕ)
+known_letters a b = cond (unknown a b) None (Some (a, b))
+
 -- a place that was found is at fault; else see what comes next
 abbrev pub at_place : (ℕ → Refusal) → Option ℕ → Option Refusal → Option Refusal
 at_place why None next = next
@@ -56,3 +60,8 @@ refusal_of ls ps n =
     option_or (shape_refusal (length ls) (length ps) n)
     (at_place Foreign (first_place (foreign ps) n)
     (at_place Twice (first_place (repeated ps) n) None))
+
+-- what there is no refusal of is taken
+abbrev pub verdict : Option Refusal → Result Unit Refusal
+verdict None = Ok tt
+verdict (Some why) = Err why

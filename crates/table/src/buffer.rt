@@ -1,5 +1,5 @@
 // A table that owns its numbers and is filled step by step.
-ghost use Rattle.std.specs.Prelude.{◌≡◌, false, is_some};
+ghost use Rattle.std.specs.Prelude.{◌≡◌, ◌/◌, length, None};
 ghost use Rattle.table.specs.Refusals.{refusal_of};
 
 mod fill;
@@ -9,6 +9,5 @@ mod fill;
 pub struct TableBuf {
     letters: Vec<u16>,
     pairs: Vec<u16>,
-    count: usize,
-    ghost sound: { is_some (refusal_of letters.items pairs.items count) ≡ false },
+    ghost sound: { refusal_of letters.items pairs.items (length pairs.items / 5) ≡ None },
 }

@@ -1,7 +1,7 @@
-// Why numbers are turned away.
+// Why numbers are turned away, and why something was not done.
 ghost use Rattle.std.specs.Prelude.{◌≡◌};
 ghost use Rattle.table.specs.Refusals.{refusal_number, refusal_place};
-ghost use Rattle.table.specs.declared.fault.AddError.TheVariants.{NoMemory};
+ghost use Rattle.table.specs.declared.fault.Failure.TheVariants.{NoMemory, Refused};
 
 use std::alloc::AllocError;
 
@@ -20,14 +20,14 @@ pub enum Refusal {
 }
 
 impl Refusal {
-    // The number that is reported: 1 for every fault of a table.
+    // The number that is reported: 1 for every fault of a table. Messages and `make_key` say it as a number.
     pub fn number(self) -> u64
         ensures { result ≡ refusal_number self }
     {
         1
     }
 
-    // The pair at fault, counted from 0; else 0.
+    // The pair at fault, counted from 0; else 0, and not `None`, since what is reported always has a place.
     pub fn place(self) -> usize
         ensures { result ≡ refusal_place self }
     {
@@ -38,17 +38,28 @@ impl Refusal {
     }
 }
 
-// Why a pair was not added; nothing has changed then.
+// Why something was not done: it was turned away, or there was no memory for it. Nothing has changed then.
 #[derive(Clone, Copy, PartialEq, Eq, Debug)]
-pub enum AddError {
-    Refused(Refusal),
+pub enum Failure<R> {
+    Refused(R),
     NoMemory,
 }
 
-impl From<AllocError> for AddError {
+// Why a pair was not added.
+pub type AddError = Failure<Refusal>;
+
+impl<R> From<AllocError> for Failure<R> {
     ghost from_gives = { λ _ r. r ≡ NoMemory };
 
-    fn from(_: AllocError) -> AddError {
-        AddError::NoMemory
+    fn from(_: AllocError) -> Failure<R> {
+        Failure::NoMemory
+    }
+}
+
+impl From<Refusal> for AddError {
+    ghost from_gives = { λ why r. r ≡ Refused why };
+
+    fn from(why: Refusal) -> AddError {
+        AddError::Refused(why)
     }
 }

@@ -7,17 +7,17 @@
 #![tactic(auto)]
 
 mod buffer;
-mod chain;
 mod fault;
 mod laws;
 mod layout;
+mod pairs;
 mod piece;
 mod valley;
 mod view;
 
 pub use buffer::TableBuf;
-pub use fault::{AddError, Refusal};
+pub use fault::{AddError, Failure, Refusal};
 pub use laws::table_laws;
 pub use piece::{Pair, Weights};
 pub use valley::{valley_letters, valley_pairs};
-pub use view::{Checked, Table};
+pub use view::Table;

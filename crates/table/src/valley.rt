@@ -289,6 +289,6 @@ impl Table<'_> {
         ensures rules { rules_of result ≡ valley }
         ensures pairs { pairs_of result ≡ valley_pairs }
     {
-        Table::check(valley_letters(), valley_pairs(), 1).table
+        Table::check(valley_letters(), valley_pairs(), 1).unwrap()
     }
 }

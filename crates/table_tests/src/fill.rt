@@ -1,4 +1,5 @@
 // A table filled step by step.
+use crate::hold::hold_letters;
 use std::process::Abort;
 use std::test::Fail;
 use table::{AddError, Pair, Refusal, TableBuf, Weights};
@@ -20,12 +21,6 @@ const NONE: Weights = Weights {
     secondary: 0,
     tertiary: 0,
 };
-
-fn hold_letters(rt: &impl Abort, table: &TableBuf, cases: &[(u8, Weights)]) {
-    for (letter, weights) in cases {
-        assert_eq!(rt; table.table().letter(*letter), *weights);
-    }
-}
 
 // Adds a pair, and holds the answer to what it should be.
 fn add(
@@ -49,14 +44,14 @@ fn add(
 #[test]
 fn letters(rt: HostRuntime) -> Result<(), Fail> {
     let mut table = TableBuf::new(rt.alloc())?;
-    hold_letters(&rt, &table, &[(0, NONE), (97, NONE), (255, NONE)]);
+    hold_letters(&rt, &table.table(), &[(0, NONE), (97, NONE), (255, NONE)]);
     table.set_letter(0, ONE);
     table.set_letter(255, TWO);
     table.set_letter(97, ONE);
     table.set_letter(97, TWO);
     hold_letters(
         &rt,
-        &table,
+        &table.table(),
         &[
             (0, ONE),
             (1, NONE),
@@ -100,7 +95,7 @@ fn pairs(rt: HostRuntime) -> Result<(), Fail> {
         ONE,
         Err(AddError::Refused(Refusal::Foreign(2))),
     );
-    hold_letters(&rt, &table, &[(96, NONE), (97, TWO)]);
+    hold_letters(&rt, &table.table(), &[(96, NONE), (97, TWO)]);
     assert_eq!(rt; table.table().pair(0, 255), Some(ONE));
     assert_eq!(rt; table.table().pair(255, 0), Some(TWO));
     assert_eq!(rt; table.table().pair(0, 0), None);

@@ -4,6 +4,8 @@
 #[cfg(test)]
 mod fill;
 #[cfg(test)]
+mod hold;
+#[cfg(test)]
 mod look;
 #[cfg(test)]
 mod refuse;

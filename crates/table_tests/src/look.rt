@@ -1,20 +1,8 @@
 // What letters and pairs weigh.
+use crate::hold::hold_letters;
 use std::process::Abort;
+use std::test::Fail;
 use table::{Pair, Table, Weights};
-
-fn weigh(primary: u16, secondary: u16, tertiary: u16) -> Weights {
-    Weights {
-        primary,
-        secondary,
-        tertiary,
-    }
-}
-
-fn hold_letters(rt: &impl Abort, table: &Table, cases: &[(u8, Weights)]) {
-    for (letter, weights) in cases {
-        assert_eq!(rt; table.letter(*letter), *weights);
-    }
-}
 
 fn hold_pairs(rt: &impl Abort, table: &Table, cases: &[(u8, u8, Option<Weights>)]) {
     for (first, second, weights) in cases {
@@ -35,23 +23,23 @@ fn valley(rt: HostRuntime) {
         &rt,
         &valley,
         &[
-            (b'a', weigh(10, 1, 1)),
-            (b'z', weigh(260, 1, 1)),
-            (b'A', weigh(10, 1, 2)),
-            (b'Z', weigh(260, 1, 2)),
-            (b'\'', weigh(0, 2, 1)),
-            (b' ', weigh(0, 0, 1)),
-            (b'`', weigh(0, 0, 1)),
-            (b'{', weigh(0, 0, 1)),
-            (0, weigh(0, 0, 1)),
-            (255, weigh(0, 0, 1)),
+            (b'a', Weights::from([10, 1, 1])),
+            (b'z', Weights::from([260, 1, 1])),
+            (b'A', Weights::from([10, 1, 2])),
+            (b'Z', Weights::from([260, 1, 2])),
+            (b'\'', Weights::from([0, 2, 1])),
+            (b' ', Weights::from([0, 0, 1])),
+            (b'`', Weights::from([0, 0, 1])),
+            (b'{', Weights::from([0, 0, 1])),
+            (0, Weights::from([0, 0, 1])),
+            (255, Weights::from([0, 0, 1])),
         ],
     );
     hold_pairs(
         &rt,
         &valley,
         &[
-            (b'c', b'h', Some(weigh(35, 1, 1))),
+            (b'c', b'h', Some(Weights::from([35, 1, 1]))),
             (b'h', b'c', None),
             (b'c', b'c', None),
             (b'C', b'h', None),
@@ -66,7 +54,7 @@ fn valley(rt: HostRuntime) {
                 Some(Pair {
                     first: 99,
                     second: 104,
-                    weights: weigh(35, 1, 1),
+                    weights: Weights::from([35, 1, 1]),
                 }),
             ),
             (1, None),
@@ -77,7 +65,7 @@ fn valley(rt: HostRuntime) {
 
 // The first letter and the last, with another weight on each level.
 #[test]
-fn letters(rt: HostRuntime) {
+fn letters(rt: HostRuntime) -> Result<(), Fail> {
     let mut numbers = [7u16; 768];
     numbers[0] = 1;
     numbers[1] = 2;
@@ -85,36 +73,37 @@ fn letters(rt: HostRuntime) {
     numbers[765] = 4;
     numbers[766] = 5;
     numbers[767] = 65535;
-    let table = Table::check(&numbers, &[], 0).table;
+    let table = Table::check(&numbers, &[], 0)?;
     hold_letters(
         &rt,
         &table,
         &[
-            (0, weigh(1, 2, 3)),
-            (1, weigh(7, 7, 7)),
-            (254, weigh(7, 7, 7)),
-            (255, weigh(4, 5, 65535)),
+            (0, Weights::from([1, 2, 3])),
+            (1, Weights::from([7, 7, 7])),
+            (254, Weights::from([7, 7, 7])),
+            (255, Weights::from([4, 5, 65535])),
         ],
     );
+    Ok(())
 }
 
 // Pairs that begin with the first letter, with the last, and several with the same.
 #[test]
-fn pairs(rt: HostRuntime) {
+fn pairs(rt: HostRuntime) -> Result<(), Fail> {
     let letters = [9u16; 768];
     let numbers = [
         0, 0, 1, 2, 3, 255, 0, 2, 3, 4, 0, 255, 3, 4, 5, 255, 255, 4, 5, 6, 0, 7, 5, 6, 7,
     ];
-    let table = Table::check(&letters, &numbers, 5).table;
+    let table = Table::check(&letters, &numbers, 5)?;
     hold_pairs(
         &rt,
         &table,
         &[
-            (0, 0, Some(weigh(1, 2, 3))),
-            (255, 0, Some(weigh(2, 3, 4))),
-            (0, 255, Some(weigh(3, 4, 5))),
-            (255, 255, Some(weigh(4, 5, 6))),
-            (0, 7, Some(weigh(5, 6, 7))),
+            (0, 0, Some(Weights::from([1, 2, 3]))),
+            (255, 0, Some(Weights::from([2, 3, 4]))),
+            (0, 255, Some(Weights::from([3, 4, 5]))),
+            (255, 255, Some(Weights::from([4, 5, 6]))),
+            (0, 7, Some(Weights::from([5, 6, 7]))),
             (0, 8, None),
             (7, 0, None),
             (1, 0, None),
@@ -129,7 +118,7 @@ fn pairs(rt: HostRuntime) {
                 Some(Pair {
                     first: 0,
                     second: 0,
-                    weights: weigh(1, 2, 3),
+                    weights: Weights::from([1, 2, 3]),
                 }),
             ),
             (
@@ -137,7 +126,7 @@ fn pairs(rt: HostRuntime) {
                 Some(Pair {
                     first: 255,
                     second: 255,
-                    weights: weigh(4, 5, 6),
+                    weights: Weights::from([4, 5, 6]),
                 }),
             ),
             (
@@ -145,21 +134,29 @@ fn pairs(rt: HostRuntime) {
                 Some(Pair {
                     first: 0,
                     second: 7,
-                    weights: weigh(5, 6, 7),
+                    weights: Weights::from([5, 6, 7]),
                 }),
             ),
             (5, None),
             (18446744073709551615, None),
         ],
     );
+    Ok(())
 }
 
-// What is turned away comes with a table in which nothing weighs anything.
+// In place of what is turned away there is a table in which nothing weighs anything.
 #[test]
 fn blank(rt: HostRuntime) {
     let letters = [9u16; 768];
-    let table = Table::check(&letters, &[1, 2, 3, 4, 5, 1, 2, 3, 4, 5], 2).table;
-    hold_letters(&rt, &table, &[(0, weigh(0, 0, 0)), (255, weigh(0, 0, 0))]);
+    let table = Table::check(&letters, &[1, 2, 3, 4, 5, 1, 2, 3, 4, 5], 2).unwrap_or_default();
+    hold_letters(
+        &rt,
+        &table,
+        &[
+            (0, Weights::from([0, 0, 0])),
+            (255, Weights::from([0, 0, 0])),
+        ],
+    );
     hold_pairs(&rt, &table, &[(1, 2, None)]);
     hold_places(&rt, &table, &[(0, None)]);
 }

@@ -11,7 +11,7 @@ static ZEROS: [u16; 769] = [0; 769];
 struct Case(usize, &'static [u16], u64, Option<Refusal>);
 
 fn refusal(letters: usize, pairs: &[u16], how_many: u64) -> Option<Refusal> {
-    Table::check(&ZEROS[0..letters.min(769)], pairs, how_many).refusal
+    Table::check(&ZEROS[0..letters.min(769)], pairs, how_many).err()
 }
 
 fn hold(rt: &impl Abort, cases: &[Case]) {

@@ -1,8 +1,8 @@
 -- A text cut at its first mark.
-use Rattle.std.proofs.Common.{◌≡◌, ℕ, zero, suc, ◌+◌, ◌<◌, ◌≤◌, Bool, true, false, cond, eqb, List, [], ◌∷◌, length, get_or, take, drop, Some, None, sym, refl, add-one, arith}
-use Rattle.std.proofs.lemmas.List.{drop_all, drop_more}
-use Rattle.std.proofs.lemmas.Bool.{eq-eqb, ne_eqb}
-use Rattle.std.proofs.lemmas.Bool.Decides.{nat_tests}
+use Rattle.std.proofs.Common.{◌≡◌, ℕ, zero, suc, ◌+◌, ◌-◌, ◌<◌, ◌≤◌, Bool, true, false, cond, ◌&&◌, eqb, List, [], ◌∷◌, length, get_or, take, drop, Some, None, sym, refl, ap, ◌∙◌, add-one, arith}
+use Rattle.std.proofs.lemmas.List.{at_drop_more, nil_from_length, take_rest}
+use Rattle.std.proofs.lemmas.Bool.{eq-eqb, ne_eqb, eqb-true, eqb-false}
+use Rattle.std.specs.Cmp.Lexicographic.{pointwise}
 use Rattle.texts.specs.Parts.{behind_word, led, parts}
 
 module _ (m : ℕ) where
@@ -46,33 +46,33 @@ parts_most m (x ∷ xs) = go (eqb x m) (parts_some m xs) (parts_most m xs)
     go true l h = omega arith
     go false l h = let e = length_led x (parts m xs) l in omega arith
 
--- a line beside a word, letter by letter
-pub behind_short : (ws xs : List ℕ) → length xs < length ws → behind_word ws xs ≡ None
+-- a line beside a word: what stands behind the word, where the line begins with it
+pub behind_prefix : (ws xs : List ℕ) → behind_word ws xs ≡ cond (pointwise eqb (take (length ws) xs) ws) (behind_word [] (drop (length ws) xs)) None
 unfolding behind_word
-behind_short [] xs h = absurd (omega arith)
-behind_short (w ∷ ws) [] h = refl
-behind_short (w ∷ ws) (x ∷ xs) h = let ih = behind_short ws xs (omega arith) in grind (arith, nat_tests)
+behind_prefix [] xs = refl
+behind_prefix (w ∷ ws) [] = refl
+behind_prefix (w ∷ ws) (x ∷ xs) = go (eqb w x) refl (behind_prefix ws xs)
+  where
+    go : (b : Bool) → eqb w x ≡ b → behind_word ws xs ≡ cond (pointwise eqb (take (length ws) xs) ws) (behind_word [] (drop (length ws) xs)) None → cond b (behind_word ws xs) None ≡ cond (eqb x w && pointwise eqb (take (length ws) xs) ws) (behind_word [] (drop (length ws) xs)) None
+    go true e ih = rw (eq-eqb x w (sym (eqb-true w x e))) ih
+    go false e ih = rw (ne_eqb x w (λ h. eqb-false w x e (sym h)))
 
-module _ (ws xs : List ℕ) (i : ℕ) where
-  module _ (h : i < length ws) (k : i < length xs) where
-    pub behind_more : get_or xs i 0 ≡ get_or ws i 0 → behind_word (drop i ws) (drop i xs) ≡ behind_word (drop (i + 1) ws) (drop (i + 1) xs)
+module _ (ws xs : List ℕ) where
+  pub behind_other : pointwise eqb (take (length ws) xs) ws ≡ false → behind_word ws xs ≡ None
+  behind_other e = rw (behind_prefix ws xs, e)
+
+  module _ (rest : List ℕ) (b : (pointwise eqb (take (length ws) xs) ws ≡ true) × (rest ≡ drop (length ws) xs)) where
+    behind_rest : behind_word ws xs ≡ behind_word [] rest
+    behind_rest = rw (behind_prefix ws xs, b.0, b.1)
+
+    pub behind_alone : length rest < 1 → behind_word ws xs ≡ Some rest
     unfolding behind_word
-    behind_more e = rw (drop_more ws i 0 h, drop_more xs i 0 k, eq-eqb (get_or ws i 0) (get_or xs i 0) (sym e))
+    behind_alone l = let e = nil_from_length rest (omega arith) in behind_rest ∙ ap (behind_word []) e ∙ ap Some (sym e)
 
-    pub behind_other : (get_or xs i 0 ≡ get_or ws i 0 → ⊥) → behind_word (drop i ws) (drop i xs) ≡ None
+    pub behind_space : 0 < length rest → get_or rest 0 0 ≡ 32 → behind_word ws xs ≡ Some (take (length rest - 1) (drop 1 rest))
     unfolding behind_word
-    behind_other n = rw (drop_more ws i 0 h, drop_more xs i 0 k, ne_eqb (get_or ws i 0) (get_or xs i 0) (λ e. n (sym e)))
+    behind_space l e = behind_rest ∙ (at_drop_more (behind_word []) rest 0 0 l ∙ rw (eq-eqb (get_or rest 0 0) 32 e, take_rest rest 1))
 
-  module _ (h : length ws ≤ i) where
-    pub behind_alone : length xs ≤ i → behind_word (drop i ws) (drop i xs) ≡ Some []
+    pub behind_longer : 0 < length rest → (get_or rest 0 0 ≡ 32 → ⊥) → behind_word ws xs ≡ None
     unfolding behind_word
-    behind_alone k = rw (drop_all i ws h, drop_all i xs k)
-
-    module _ (k : i < length xs) where
-      pub behind_space : get_or xs i 0 ≡ 32 → behind_word (drop i ws) (drop i xs) ≡ Some (drop (i + 1) xs)
-      unfolding behind_word
-      behind_space e = rw (drop_all i ws h, drop_more xs i 0 k, eq-eqb (get_or xs i 0) 32 e)
-
-      pub behind_longer : (get_or xs i 0 ≡ 32 → ⊥) → behind_word (drop i ws) (drop i xs) ≡ None
-      unfolding behind_word
-      behind_longer n = rw (drop_all i ws h, drop_more xs i 0 k, ne_eqb (get_or xs i 0) 32 n)
+    behind_longer l n = behind_rest ∙ (at_drop_more (behind_word []) rest 0 0 l ∙ rw (ne_eqb (get_or rest 0 0) 32 n))

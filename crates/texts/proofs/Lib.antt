@@ -1,5 +1,4 @@
 pub mod Cutting
 pub mod Reading
-pub mod Spelling
 pub mod Saying
 pub mod Writing

@@ -1,51 +1,80 @@
--- Digits read from the front.
-use Rattle.std.proofs.Common.{◌≡◌, ℕ, ◌+◌, ◌-◌, ◌*◌, ◌<◌, ◌≤◌, true, false, ◌&&◌, ltb, List, [], ◌∷◌, length, get_or, drop, Some, None, sym, refl, ap, ◌∙◌, arith}
-use Rattle.std.proofs.lemmas.List.{at_drop_more, drop_all}
-use Rattle.std.proofs.lemmas.Bool.{lt-leb, le-leb, lt-ltb, and_right}
-use Rattle.std.proofs.lemmas.Bool.Decides.{nat_tests}
-use Rattle.std.specs.Char.{is_ascii_digit}
-use Rattle.texts.specs.Numerals.{all_digits, value, number_of}
+-- Digits read as a number.
+use Rattle.std.proofs.Common.{◌≡◌, ℕ, ◌+◌, ◌*◌, ◌<◌, ◌≤◌, Bool, true, false, cond, ◌&&◌, ltb, leb, List, [], ◌∷◌, length, get_or, drop, is_ok, Some, None, Option, Ok, Err, Result, MatchResult, Decides, sym, refl, ap, ◌∙◌, subst, rules, arith}
+use Rattle.std.proofs.lemmas.Bool.{lt-ltb, le-leb, leb-true, eq-eqb, ne_eqb, true≢false}
+use Rattle.std.proofs.lemmas.Bool.Decides.{nat_tests, Decides-like, Decides-and, Decides-ltb}
+use Rattle.std.proofs.lemmas.List.{drop_more, drop_all}
+use Rattle.std.proofs.lemmas.Str.Ascii.{IsAscii-nil, IsAscii-cons}
+use Rattle.std.proofs.lemmas.Str.Parse.{IsNumeralModel, numerals_by_fold}
+use Rattle.std.specs.Char.{digit_value, is_digit}
+use Rattle.std.specs.List.{list_all}
+use Rattle.std.specs.Option.{SomeIff}
+use Rattle.std.specs.Str.{IsAscii}
+use Rattle.std.specs.Str.Parse.{AllDigits, IsNumeral, digits_value}
+use Rattle.texts.specs.Numerals.{all_digits, value, number_of, hex_digit, hex_of, letter_of}
 
--- more digits make it no smaller
-pub value_least : (n : ℕ) (xs : List ℕ) → n ≤ value n xs
-unfolding value
-value_least n [] = omega arith
-value_least n (x ∷ xs) = let ih = value_least (10 * n + (x - 48)) xs in omega arith
+-- `Some` just where P holds, and a test of P
+pick : (t : Bool) (P : Type 0) → Decides t P → (r : Option ℕ) (v u : ℕ) → SomeIff r P v → (P → v ≡ u) → r ≡ cond t (Some u) None
+pick true P d None v u h e = absurd (h (d.0 refl))
+pick true P d (Some x) v u h e = ap Some (h.1 ∙ e h.0)
+pick false P d None v u h e = refl
+pick false P d (Some x) v u h e = absurd (true≢false (sym (d.1 h.0)))
 
--- what the digits from place i on say, if those before it said n
-pub record Says (w : List ℕ) (i n : ℕ) : Type 0 where
-  pub digits : all_digits (drop i w) ≡ all_digits w
-  pub rest : value n (drop i w) ≡ value 0 w
-  pub small : n ≤ 65535
+-- the test that the code makes of each byte
+module _ (base : ℕ) where
+  pub digits_pass : (w : List ℕ) → AllDigits base w → list_all (λ x. is_digit x base) w ≡ true
+  digits_pass [] d = refl
+  digits_pass (x ∷ w) d = rw (lt-ltb (digit_value x) base d.0) (digits_pass w d.1)
 
-module _ (w : List ℕ) (i n : ℕ) (l : i < length w) (s : Says w i n) where
-  digits_are : all_digits w ≡ (is_ascii_digit (get_or w i 0) && all_digits (drop (i + 1) w))
-  unfolding all_digits
-  digits_are = sym s.digits ∙ at_drop_more all_digits w i 0 l
+  pub digits_ascii : base ≤ 36 → (w : List ℕ) → list_all (λ x. is_digit x base) w ≡ true → IsAscii w
+  digits_ascii l [] h = IsAscii-nil
+  digits_ascii l (x ∷ w) h = go (is_digit x base) refl h (digits_ascii l w)
+    where
+      go : (b : Bool) → is_digit x base ≡ b → (b && list_all (λ y. is_digit y base) w) ≡ true → (list_all (λ y. is_digit y base) w ≡ true → IsAscii w) → IsAscii (x ∷ w)
+      go true e k ih = IsAscii-cons x w (grind (arith, nat_tests)) (ih k)
+      go false e k ih = absurd (true≢false (sym k))
 
-  value_is : value 0 w ≡ value (10 * n + (get_or w i 0 - 48)) (drop (i + 1) w)
-  unfolding value
-  value_is = sym s.rest ∙ at_drop_more (value n) w i 0 l
+pub no_failure : {T E : Type 0} (r : Result T E) (P : T → Type 0) (U : Type 0) (V : E → Type 0) → MatchResult r P (λ e. ¬ U × V e) → is_ok r ≡ false → U → ⊥
+no_failure (Ok x) P U V h e u = true≢false e
+no_failure (Err x) P U V h e u = h.0 u
 
-  pub no_digit : is_ascii_digit (get_or w i 0) ≡ false → number_of w ≡ None
-  no_digit e = let d = digits_are in grind (arith, nat_tests)
-
-  pub too_large : 65535 < 10 * n + (get_or w i 0 - 48) → number_of w ≡ None
-  too_large h = let v = value_is in let m = value_least (10 * n + (get_or w i 0 - 48)) (drop (i + 1) w) in
-      let t = lt-leb (value 0 w) 65535 (omega arith) in
-      rw (t, and_right (all_digits w) false refl, and_right (ltb 0 (length w)) false refl)
-
-  pub one_more : is_ascii_digit (get_or w i 0) ≡ true → 10 * n + (get_or w i 0 - 48) ≤ 65535 → Says w (i + 1) (10 * n + (get_or w i 0 - 48))
-  one_more e h = record { digits = sym (digits_are ∙ ap (λ d. d && all_digits (drop (i + 1) w)) e); rest = sym value_is; small = h }
-
-pub says_none : (w : List ℕ) → Says w 0 0
-says_none w = record { digits = refl; rest = refl; small = omega arith }
-
-pub says_all : (w : List ℕ) (n : ℕ) → 0 < length w → Says w (length w) n → number_of w ≡ Some n
+-- decimal digits
+own : IsNumeralModel (λ ds. all_digits ds ≡ true) (value 0)
 unfolding all_digits value
-says_all w n l s =
-    let e = drop_all (length w) w (omega arith) in
-    let d : all_digits w ≡ true = sym s.digits ∙ ap all_digits e in
-    let v : value 0 w ≡ n = sym s.rest ∙ ap (value n) e in
-    let t = le-leb n 65535 s.small in
-    rw (lt-ltb 0 (length w) l, d, v, t)
+own = numerals_by_fold _ (search rules) value (search rules)
+
+pub decimal_read : (w : List ℕ) (r : Option ℕ) → SomeIff r (IsNumeral 10 w × (digits_value 10 w < 65536)) (digits_value 10 w) → r ≡ number_of w
+decimal_read w r h = pick _ _ tells r _ (value 0 w) h (λ p. sym (own.same w p.0.1))
+  where
+    tells : Decides (ltb 0 (length w) && (all_digits w && leb (value 0 w) 65535)) (IsNumeral 10 w × (digits_value 10 w < 65536))
+    tells =
+        Decides-like _ (λ q. let e = own.same w q.1.0 in ((q.0, q.1.0), omega arith)) (λ p. let e = own.same w p.0.1 in (p.0.0, (p.0.1, omega arith)))
+        (Decides-and _ _ (Decides-ltb 0 (length w)) (Decides-and _ _ (own.to w, own.from w) (leb-true (value 0 w) 65535, le-leb (value 0 w) 65535)))
+
+-- four hexadecimal digits
+hex_digit_is : (x : ℕ) → hex_digit x ≡ cond (ltb (digit_value x) 16) (Some (digit_value x)) None
+hex_digit_is x = grind (arith, nat_tests)
+
+hex_of_all : (p q s t : Bool) (a b c d : ℕ) → hex_of (cond p (Some a) None) (cond q (Some b) None) (cond s (Some c) None) (cond t (Some d) None) ≡ cond (p && (q && (s && t))) (Some (4096 * a + (256 * b + (16 * c + d)))) None
+hex_of_all false q s t a b c d = refl
+hex_of_all true false s t a b c d = refl
+hex_of_all true true false t a b c d = refl
+hex_of_all true true true false a b c d = refl
+hex_of_all true true true true a b c d = refl
+
+hex_read : (a b c d : ℕ) (r : Option ℕ) → SomeIff r (IsNumeral 16 (a ∷ (b ∷ (c ∷ (d ∷ [])))) × (digits_value 16 (a ∷ (b ∷ (c ∷ (d ∷ [])))) < 65536)) (digits_value 16 (a ∷ (b ∷ (c ∷ (d ∷ []))))) → r ≡ hex_of (hex_digit a) (hex_digit b) (hex_digit c) (hex_digit d)
+hex_read a b c d r h =
+    rw (hex_digit_is a, hex_digit_is b, hex_digit_is c, hex_digit_is d, hex_of_all)
+    (pick _ _ tells r _ _ h (λ p. omega arith))
+  where
+    tells : Decides (ltb (digit_value a) 16 && (ltb (digit_value b) 16 && (ltb (digit_value c) 16 && ltb (digit_value d) 16))) (IsNumeral 16 (a ∷ (b ∷ (c ∷ (d ∷ [])))) × (digits_value 16 (a ∷ (b ∷ (c ∷ (d ∷ [])))) < 65536))
+    tells =
+        Decides-like _ (λ q. ((omega arith, (q.0, (q.1.0, (q.1.1.0, (q.1.1.1, tt))))), omega arith)) (λ p. (p.0.1.0, (p.0.1.1.0, (p.0.1.1.1.0, p.0.1.1.1.1.0))))
+        (Decides-and _ _ (Decides-ltb (digit_value a) 16) (Decides-and _ _ (Decides-ltb (digit_value b) 16) (Decides-and _ _ (Decides-ltb (digit_value c) 16) (Decides-ltb (digit_value d) 16))))
+
+-- a letter by its number: d is what stands behind the sign
+pub by_number : (w d : List ℕ) → d ≡ drop 2 w → length w ≡ 6 → get_or w 0 0 ≡ 85 → get_or w 1 0 ≡ 43 → (r : Option ℕ) → SomeIff r (IsNumeral 16 d × (digits_value 16 d < 65536)) (digits_value 16 d) → r ≡ letter_of w
+unfolding letter_of
+by_number w d b e u p r h =
+    let l = b ∙ (drop_more w 2 0 (omega arith) ∙ ap (λ k. get_or w 2 0 ∷ k) (drop_more w 3 0 (omega arith) ∙ ap (λ k. get_or w 3 0 ∷ k) (drop_more w 4 0 (omega arith) ∙ ap (λ k. get_or w 4 0 ∷ k) (drop_more w 5 0 (omega arith) ∙ ap (λ k. get_or w 5 0 ∷ k) (drop_all 6 w (omega arith)))))) in
+    rw (ne_eqb (length w) 1 (omega arith), eq-eqb (length w) 6 e, eq-eqb (get_or w 0 0) 85 u, eq-eqb (get_or w 1 0) 43 p)
+    (hex_read (get_or w 2 0) (get_or w 3 0) (get_or w 4 0) (get_or w 5 0) r (subst (λ (k : List ℕ). SomeIff r (IsNumeral 16 k × (digits_value 16 k < 65536)) (digits_value 16 k)) l h))

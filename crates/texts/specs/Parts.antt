@@ -20,10 +20,6 @@ parts_left m (Some rest) = parts m rest
 abbrev pub words : List ℕ → List (List ℕ)
 words = parts 32
 
--- the words of what is left of a line
-abbrev pub words_left : Option (List ℕ) → List (List ℕ)
-words_left = parts_left 32
-
 -- a line without the carriage return at its end, if it has one
 abbrev pub without_return : List ℕ → List ℕ
 without_return l = cond (slice_index l (length l - 1) == 13) (take (length l - 1) l) l

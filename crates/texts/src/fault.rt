@@ -1,5 +1,6 @@
 // Why a line was turned away.
 ghost use Rattle.std.specs.Prelude.{◌≡◌, Some};
+ghost use Rattle.texts.specs.declared.fault.Fault.TheVariants.{Name, Table};
 ghost use Rattle.texts.specs.Written.{fault_number, fault_place, fault_text, name_sentence, refusal_sentence, sentence_of};
 
 use keys::NameRefusal;
@@ -49,6 +50,22 @@ impl Fault {
             Fault::Text(_) =>
                 "a line is 'letter X a b c', 'pair X Y a b c' or 'key X', with letters up to U+00FF and weights up to 65535",
         }
+    }
+}
+
+impl From<Refusal> for Fault {
+    ghost from_gives = { λ refusal r. r ≡ Table refusal };
+
+    fn from(refusal: Refusal) -> Fault {
+        Fault::Table(refusal)
+    }
+}
+
+impl From<NameRefusal> for Fault {
+    ghost from_gives = { λ refusal r. r ≡ Name refusal };
+
+    fn from(refusal: NameRefusal) -> Fault {
+        Fault::Name(refusal)
     }
 }
 

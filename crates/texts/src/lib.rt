@@ -13,5 +13,5 @@ mod written;
 
 pub use fault::Fault;
 pub use line::{Command, Line};
-pub use part::{Cut, first_part, without_return};
+pub use part::{Cut, Parts, first_part, without_return};
 pub use written::{Letter, Numbers};

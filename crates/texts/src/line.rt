@@ -1,11 +1,10 @@
 // What a line says.
 ghost use Rattle.std.specs.Prelude.{◌≡◌};
 ghost use Rattle.texts.specs.Lines.{command, letter_line, line_of, meaning, pair_line, three_weights};
-ghost use Rattle.std.specs.Option.{option_map};
-ghost use Rattle.texts.specs.Parts.{words, words_left};
+ghost use Rattle.texts.specs.Parts.{words};
 
 use crate::numeral::{letter_number, number};
-use crate::part::{behind_word, first_part};
+use crate::part::{Parts, behind_word};
 use table::{Pair, Weights};
 
 #[derive(Clone, Copy, PartialEq, Eq, Debug)]
@@ -16,7 +15,7 @@ pub enum Command {
     AddPair(Pair),
 }
 
-#[derive(Clone, Copy, Debug)]
+#[derive(Clone, Copy, PartialEq, Eq, Debug)]
 pub enum Line<'a> {
     // Nothing stands in it.
     Blank,
@@ -29,6 +28,7 @@ pub enum Line<'a> {
 
 impl<'a> Line<'a> {
     // What a line says, without its end.
+    #[tactic(auto, using(crate::proofs::Saying::blank_line, crate::proofs::Saying::some_line))]
     pub fn read(line: &'a [u8]) -> Line<'a>
         ensures { meaning result ≡ line_of line.now }
     {
@@ -38,10 +38,8 @@ impl<'a> Line<'a> {
         if let Some(name) = behind_word(line, b"key") {
             return Line::Key(name);
         }
-        match read_command(line) {
-            Some(command) => Line::Says(command),
-            None => Line::Unreadable,
-        }
+        // A closure, since the bare `Line::Says` gets no proof here: what it takes has no lifetime, and a `Line` has one.
+        read_command(line).map_or(Line::Unreadable, |command| Line::Says(command))
     }
 }
 
@@ -49,38 +47,30 @@ impl<'a> Line<'a> {
 fn read_command(line: &[u8]) -> Option<Command>
     ensures { result ≡ command (words line.now) }
 {
-    let cut = first_part(line, b' ');
-    if cut.part == b"letter".as_slice() {
-        return read_letter(cut.rest);
+    let mut words = Parts::new(line, b' ');
+    match words.next()? {
+        b"letter" => read_letter(words),
+        b"pair" => read_pair(words),
+        _ => None,
     }
-    if cut.part == b"pair".as_slice() {
-        return read_pair(cut.rest);
-    }
-    None
 }
 
 // A letter and its weights.
-fn read_letter(rest: Option<&[u8]>) -> Option<Command>
-    ensures { result ≡ letter_line (words_left (option_map (λ x. x.now) rest.entry)) }
+fn read_letter(mut words: Parts) -> Option<Command>
+    ensures { result ≡ letter_line words.entry }
 {
-    let cut = first_part(rest?, b' ');
-    let letter = letter_number(cut.part)?;
-    let weights = read_weights(cut.rest)?;
-    if letter > 255 {
-        return None;
-    }
-    Some(Command::SetLetter(letter as u8, weights))
+    let letter = letter_number(words.next()?)?;
+    let letter = u8::try_from(letter).ok()?;
+    Some(Command::SetLetter(letter, read_weights(words)?))
 }
 
 // Two letters and what they weigh together.
-fn read_pair(rest: Option<&[u8]>) -> Option<Command>
-    ensures { result ≡ pair_line (words_left (option_map (λ x. x.now) rest.entry)) }
+fn read_pair(mut words: Parts) -> Option<Command>
+    ensures { result ≡ pair_line words.entry }
 {
-    let one = first_part(rest?, b' ');
-    let two = first_part(one.rest?, b' ');
-    let first = letter_number(one.part)?;
-    let second = letter_number(two.part)?;
-    let weights = read_weights(two.rest)?;
+    let first = letter_number(words.next()?)?;
+    let second = letter_number(words.next()?)?;
+    let weights = read_weights(words)?;
     Some(Command::AddPair(Pair {
         first,
         second,
@@ -89,18 +79,15 @@ fn read_pair(rest: Option<&[u8]>) -> Option<Command>
 }
 
 // Three numbers and nothing behind.
-fn read_weights(rest: Option<&[u8]>) -> Option<Weights>
-    ensures { result ≡ three_weights (words_left (option_map (λ x. x.now) rest.entry)) }
+fn read_weights(mut words: Parts) -> Option<Weights>
+    ensures { result ≡ three_weights words.entry }
 {
-    let a = first_part(rest?, b' ');
-    let b = first_part(a.rest?, b' ');
-    let c = first_part(b.rest?, b' ');
-    if c.rest.is_some() {
+    let primary = number(words.next()?)?;
+    let secondary = number(words.next()?)?;
+    let tertiary = number(words.next()?)?;
+    if words.next().is_some() {
         return None;
     }
-    let primary = number(a.part)?;
-    let secondary = number(b.part)?;
-    let tertiary = number(c.part)?;
     Some(Weights {
         primary,
         secondary,

@@ -1,60 +1,39 @@
 // Numbers and letters as they are written in a line.
-ghost use Rattle.std.specs.Prelude.{◌≡◌, ◌<◌, IfSome};
-ghost use Rattle.texts.specs.Numerals.{hex_digit, hex_of, letter_of, number_of};
+ghost use Rattle.std.specs.Prelude.{◌≡◌, ◌<◌, ◌≤◌, ◌^◌};
+ghost use Rattle.std.specs.Option.{SomeIff};
+ghost use Rattle.std.specs.Str.Parse.{IsNumeral, digits_value};
+ghost use Rattle.texts.specs.Numerals.{letter_of, number_of};
+
+use std::str;
 
 // A number up to 65,535.
+#[tactic(auto, using(crate::proofs::Reading::decimal_read))]
 pub(crate) fn number(word: &[u8]) -> Option<u16>
     ensures { result ≡ number_of word.now }
 {
-    if word.is_empty() {
-        return None;
-    }
-    let mut n: u32 = 0;
-    for b in word {
-        if !b.is_ascii_digit() {
-            return None;
-        }
-        n = 10 * n + (*b - b'0') as u32;
-        if n > 65535 {
-            return None;
-        }
-    }
-    Some(n as u16)
+    number_in_base(word, 10)
 }
 
 // A letter, written as itself or as `U+00FC`.
+#[tactic(auto, unfolding(crate::specs::Numerals::letter_of))]
 pub(crate) fn letter_number(word: &[u8]) -> Option<u16>
     ensures { result ≡ letter_of word.now }
 {
-    if word.len() == 1 {
-        return Some(word[0] as u16);
-    }
-    if word.len() == 6 && word[0] == b'U' && word[1] == b'+' {
-        return hex_number(word[2], word[3], word[4], word[5]);
-    }
-    None
-}
-
-// Four hexadecimal digits.
-fn hex_number(a: u8, b: u8, c: u8, d: u8) -> Option<u16>
-    ensures { result ≡ hex_of (hex_digit a) (hex_digit b) (hex_digit c) (hex_digit d) }
-{
-    let w = hex(a)?;
-    let x = hex(b)?;
-    let y = hex(c)?;
-    let z = hex(d)?;
-    Some(4096 * w as u16 + (256 * x as u16 + (16 * y as u16 + z as u16)))
-}
-
-// The value of a hexadecimal digit.
-fn hex(digit: u8) -> Option<u8>
-    ensures value { result ≡ hex_digit digit }
-    ensures bound { IfSome result (λ v. v < 16) }
-{
-    match digit {
-        b'0'..=b'9' => Some(digit - b'0'),
-        b'A'..=b'F' => Some(digit - b'A' + 10),
-        b'a'..=b'f' => Some(digit - b'a' + 10),
+    match word {
+        [letter] => Some(u16::from(*letter)),
+        [b'U', b'+', digits @ ..] if digits.len() == 4 => number_in_base(digits, 16),
         _ => None,
     }
+}
+
+// A number up to 65,535, of digits alone: `from_str_radix` would take a sign too.
+fn number_in_base(word: &[u8], base: u32) -> Option<u16>
+    requires least { 2 ≤ base }
+    requires most { base ≤ 36 }
+    ensures { SomeIff result (IsNumeral base word.now × (digits_value base word.now < 2 ^ 16)) (digits_value base word.now) }
+{
+    if !word.iter().all(|byte| char::from(*byte).is_digit(base)) {
+        return None;
+    }
+    u16::from_str_radix(str::from_utf8(word).ok()?, base).ok()
 }

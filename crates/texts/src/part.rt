@@ -1,7 +1,10 @@
 // A text cut at a mark: words at spaces, lines at their ends.
-ghost use Rattle.std.specs.Prelude.{◌≡◌, ◌∷◌};
+ghost use Rattle.std.specs.Prelude.{◌≡◌, ℕ, ◌+◌, ◌≤◌, List, ◌∷◌, length};
+ghost use Rattle.std.specs.Iterator.{YieldsFirstRef, item_count};
 ghost use Rattle.std.specs.Option.{option_map};
 ghost use Rattle.texts.specs.Parts.{behind_word, parts, parts_left, without_return};
+
+use std::marker::Model;
 
 #[derive(Clone, Copy)]
 pub struct Cut<'a> {
@@ -15,17 +18,56 @@ pub struct Cut<'a> {
 pub fn first_part<'a>(text: &'a [u8], mark: u8) -> Cut<'a>
     ensures { parts mark text.now ≡ result.part.now ∷ parts_left mark (option_map (λ x. x.now) result.rest) }
 {
-    for i in 0..text.len() {
-        if text[i] == mark {
-            return Cut {
-                part: &text[0..i],
-                rest: Some(&text[i + 1..text.len()]),
-            };
+    match text.iter().position(|byte| *byte == mark) {
+        Some(place) => Cut {
+            part: &text[..place],
+            rest: Some(&text[place + 1..]),
+        },
+        None => Cut {
+            part: text,
+            rest: None,
+        },
+    }
+}
+
+// The parts of a text, from the first on: the list of those that are left.
+#[derive(Drop)]
+pub struct Parts<'a> {
+    // What is not cut yet; nothing behind the last part.
+    rest: Option<&'a [u8]>,
+    mark: u8,
+}
+
+impl<'a> Model for Parts<'a> {
+    ghost Value = { List (List ℕ) };
+
+    ghost view = { λ it. parts_left it.mark (option_map (λ x. x.now) it.rest) };
+}
+
+impl<'a> Parts<'a> {
+    #[tactic(auto, using(crate::proofs::Cutting::parts_most))]
+    pub fn new(text: &'a [u8], mark: u8) -> Parts<'a>
+        ensures all { result ≡ parts mark text.now }
+        ensures count { length result ≤ length text.now + 1 }
+    {
+        Parts {
+            rest: Some(text),
+            mark,
         }
     }
-    Cut {
-        part: text,
-        rest: None,
+}
+
+impl<'a> Iterator for Parts<'a> {
+    type Item = &'a [u8];
+
+    ghost next_gives = { YieldsFirstRef (λ left. left) };
+
+    ghost remaining = { item_count (λ left. left) };
+
+    fn next(&mut self) -> Option<&'a [u8]> {
+        let cut = first_part(self.rest?, self.mark);
+        self.rest = cut.rest;
+        Some(cut.part)
     }
 }
 
@@ -33,29 +75,17 @@ pub fn first_part<'a>(text: &'a [u8], mark: u8) -> Cut<'a>
 pub fn without_return<'a>(line: &'a [u8]) -> &'a [u8]
     ensures { result.now ≡ without_return line.now }
 {
-    if line.len() > 0 && line[line.len() - 1] == b'\r' {
-        return &line[0..line.len() - 1];
-    }
-    line
+    line.strip_suffix(b"\r").unwrap_or(line)
 }
 
 // What stands behind a word and one space at the front of a line; nothing where the line is that word alone.
 pub(crate) fn behind_word<'a>(line: &'a [u8], word: &[u8]) -> Option<&'a [u8]>
     ensures { option_map (λ x. x.now) result ≡ behind_word word.now line.now }
 {
-    if line.len() < word.len() {
-        return None;
+    let rest = line.strip_prefix(word)?;
+    match rest {
+        [] => Some(rest),
+        [b' ', name @ ..] => Some(name),
+        _ => None,
     }
-    for i in 0..word.len() {
-        if line[i] != word[i] {
-            return None;
-        }
-    }
-    if line.len() == word.len() {
-        return Some(&line[word.len()..line.len()]);
-    }
-    if line[word.len()] != b' ' {
-        return None;
-    }
-    Some(&line[word.len() + 1..line.len()])
 }

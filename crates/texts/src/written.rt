@@ -1,10 +1,10 @@
 // Letters, commands and the numbers of keys as they are written.
-ghost use Rattle.std.specs.Prelude.{◌≡◌, ◌<◌, true, Some};
-ghost use Rattle.std.specs.Fmt.{digit_glyph};
-ghost use Rattle.texts.specs.Written.{command_text, letter_text, numbers_text};
+ghost use Rattle.std.specs.Prelude.{Some};
+ghost use Rattle.texts.specs.Written.{command_text, letter_text, numbers_text, weights_text};
 
 use crate::line::Command;
 use std::fmt;
+use table::Weights;
 
 // A letter, as itself where it can be seen and else as `U+00FC`.
 #[derive(Clone, Copy)]
@@ -15,26 +15,10 @@ impl fmt::Display for Letter {
 
     fn fmt<W: fmt::Write>(&self, f: &mut fmt::Formatter<W>) -> fmt::Result {
         let letter = self.0;
-        if letter >= 33 && letter <= 126 {
-            let mark = char::from(letter as u8);
-            return write!(f, "{mark}");
+        match u8::try_from(letter) {
+            Ok(mark) if mark.is_ascii_graphic() => write!(f, "{}", char::from(mark)),
+            _ => write!(f, "U+{letter:04X}"),
         }
-        let a = hex_char(letter / 4096);
-        let b = hex_char(letter / 256 % 16);
-        let c = hex_char(letter / 16 % 16);
-        let d = hex_char(letter % 16);
-        write!(f, "U+{a}{b}{c}{d}")
-    }
-}
-
-fn hex_char(digit: u16) -> char
-    requires { digit < 16 }
-    ensures { result ≡ digit_glyph true digit }
-{
-    if digit < 10 {
-        char::from(b'0' + digit as u8)
-    } else {
-        char::from(b'A' + (digit - 10) as u8)
     }
 }
 
@@ -43,19 +27,35 @@ impl fmt::Display for Command {
 
     fn fmt<W: fmt::Write>(&self, f: &mut fmt::Formatter<W>) -> fmt::Result {
         match *self {
-            Command::SetLetter(letter, w) => {
-                let letter = Letter(letter as u16);
-                let (p, s, t) = (w.primary, w.secondary, w.tertiary);
-                write!(f, "letter {letter} {p} {s} {t}")
+            Command::SetLetter(letter, weights) => {
+                let letter = Letter(u16::from(letter));
+                let weights = Levels(weights);
+                write!(f, "letter {letter} {weights}")
             }
             Command::AddPair(pair) => {
                 let first = Letter(pair.first);
                 let second = Letter(pair.second);
-                let w = pair.weights;
-                let (p, s, t) = (w.primary, w.secondary, w.tertiary);
-                write!(f, "pair {first} {second} {p} {s} {t}")
+                let weights = Levels(pair.weights);
+                write!(f, "pair {first} {second} {weights}")
             }
         }
+    }
+}
+
+// The three weights of a letter or a pair, one space between.
+#[derive(Clone, Copy)]
+struct Levels(Weights);
+
+impl fmt::Display for Levels {
+    ghost output = { λ x. Some (weights_text x.0) };
+
+    fn fmt<W: fmt::Write>(&self, f: &mut fmt::Formatter<W>) -> fmt::Result {
+        let Weights {
+            primary,
+            secondary,
+            tertiary,
+        } = self.0;
+        write!(f, "{primary} {secondary} {tertiary}")
     }
 }
 
@@ -67,10 +67,11 @@ impl fmt::Display for Numbers<'_> {
     ghost output = { λ x. Some (numbers_text x.0.now) };
 
     fn fmt<W: fmt::Write>(&self, f: &mut fmt::Formatter<W>) -> fmt::Result {
-        for i in 0..self.0.len() {
-            let gap = if i == 0 { "" } else { " " };
-            let number = self.0[i];
-            write!(f, "{gap}{number}")?;
+        if let Some((first, others)) = self.0.split_first() {
+            write!(f, "{first}")?;
+            for number in others {
+                write!(f, " {number}")?;
+            }
         }
         Ok(())
     }

@@ -1,7 +1,7 @@
 // What lines say.
 use std::process::Abort;
 use table::{Pair, Weights};
-use texts::{Command, Line, without_return};
+use texts::{Command, Line, Parts, without_return};
 
 const ONE: Weights = Weights {
     primary: 1,
@@ -25,19 +25,9 @@ fn pair(first: u16, second: u16) -> Line<'static> {
 #[derive(Clone, Copy)]
 struct Case(&'static [u8], Line<'static>);
 
-fn same(line: Line, other: Line) -> bool {
-    match (line, other) {
-        (Line::Blank, Line::Blank) => true,
-        (Line::Says(command), Line::Says(said)) => command == said,
-        (Line::Key(name), Line::Key(asked)) => name == asked,
-        (Line::Unreadable, Line::Unreadable) => true,
-        _ => false,
-    }
-}
-
 fn hold(rt: &impl Abort, cases: &[Case]) {
-    for case in cases {
-        assert!(rt; same(Line::read(case.0), case.1));
+    for Case(line, meaning) in cases {
+        assert_eq!(rt; Line::read(line), *meaning);
     }
 }
 
@@ -154,9 +144,24 @@ fn bad_numbers(rt: HostRuntime) {
 // One carriage return at the end is no part of the line.
 #[test]
 fn carriage_returns(rt: HostRuntime) {
-    assert!(rt; without_return(b"ab\r") == b"ab".as_slice());
-    assert!(rt; without_return(b"ab\r\r") == b"ab\r".as_slice());
-    assert!(rt; without_return(b"\rab") == b"\rab".as_slice());
-    assert!(rt; without_return(b"\r") == b"".as_slice());
-    assert!(rt; without_return(b"") == b"".as_slice());
+    assert_eq!(rt; without_return(b"ab\r"), b"ab".as_slice());
+    assert_eq!(rt; without_return(b"ab\r\r"), b"ab\r".as_slice());
+    assert_eq!(rt; without_return(b"\rab"), b"\rab".as_slice());
+    assert_eq!(rt; without_return(b"\r"), b"".as_slice());
+    assert_eq!(rt; without_return(b""), b"".as_slice());
+}
+
+// The parts of a text at its line feeds, each at its place.
+fn cut(rt: &impl Abort, text: &[u8], parts: &[&[u8]]) {
+    for (place, part) in Parts::new(text, b'\n').enumerate() {
+        assert!(rt; parts.get(place) == Some(&part));
+    }
+    assert_eq!(rt; Parts::new(text, b'\n').count(), parts.len());
+}
+
+#[test]
+fn lines(rt: HostRuntime) {
+    cut(&rt, b"key a\n\nkey b", &[b"key a", b"", b"key b"]);
+    cut(&rt, b"", &[b""]);
+    cut(&rt, b"key a\n", &[b"key a", b""]);
 }

@@ -14,23 +14,23 @@ const ONE: Weights = Weights {
 fn commands(rt: HostRuntime) -> Result<(), Fail> {
     let heap = rt.alloc();
     let letter = Command::SetLetter(33, ONE).to_string(heap)?;
-    assert!(rt; letter.as_str() == "letter ! 1 0 65535");
+    assert_eq!(rt; letter.as_str(), "letter ! 1 0 65535");
     let last = Command::SetLetter(255, ONE).to_string(heap)?;
-    assert!(rt; last.as_str() == "letter U+00FF 1 0 65535");
+    assert_eq!(rt; last.as_str(), "letter U+00FF 1 0 65535");
     let pair = Command::AddPair(Pair {
         first: 32,
         second: 126,
         weights: ONE,
     })
     .to_string(heap)?;
-    assert!(rt; pair.as_str() == "pair U+0020 ~ 1 0 65535");
+    assert_eq!(rt; pair.as_str(), "pair U+0020 ~ 1 0 65535");
     let wide = Command::AddPair(Pair {
         first: 127,
         second: 43981,
         weights: ONE,
     })
     .to_string(heap)?;
-    assert!(rt; wide.as_str() == "pair U+007F U+ABCD 1 0 65535");
+    assert_eq!(rt; wide.as_str(), "pair U+007F U+ABCD 1 0 65535");
     Ok(())
 }
 
@@ -38,11 +38,20 @@ fn commands(rt: HostRuntime) -> Result<(), Fail> {
 fn messages(rt: HostRuntime) -> Result<(), Fail> {
     let heap = rt.alloc();
     let twice = Fault::Table(Refusal::Twice(17)).to_string(heap)?;
-    assert!(rt; twice.as_str() == "turned away with 1 at 17: these two letters are a pair already");
+    assert_eq!(rt;
+        twice.as_str(),
+        "turned away with 1 at 17: these two letters are a pair already"
+    );
     let many = Fault::Table(Refusal::TooMany).to_string(heap)?;
-    assert!(rt; many.as_str() == "turned away with 1 at 0: a table has at most 200 pairs");
+    assert_eq!(rt;
+        many.as_str(),
+        "turned away with 1 at 0: a table has at most 200 pairs"
+    );
     let long = Fault::Name(NameRefusal::TooLong(1001)).to_string(heap)?;
-    assert!(rt; long.as_str() == "turned away with 2 at 1001: a name has at most 1000 letters");
+    assert_eq!(rt;
+        long.as_str(),
+        "turned away with 2 at 1001: a name has at most 1000 letters"
+    );
     assert_eq!(rt; Fault::Text(0).number(), 3);
     assert_eq!(rt; Fault::Text(9).place(), 9);
     Ok(())
@@ -51,8 +60,11 @@ fn messages(rt: HostRuntime) -> Result<(), Fail> {
 #[test]
 fn numbers(rt: HostRuntime) -> Result<(), Fail> {
     let heap = rt.alloc();
-    assert!(rt; Numbers(&[]).to_string(heap)?.as_str() == "");
-    assert!(rt; Numbers(&[0]).to_string(heap)?.as_str() == "0");
-    assert!(rt; Numbers(&[30, 0, 4294967295]).to_string(heap)?.as_str() == "30 0 4294967295");
+    assert_eq!(rt; Numbers(&[]).to_string(heap)?.as_str(), "");
+    assert_eq!(rt; Numbers(&[0]).to_string(heap)?.as_str(), "0");
+    assert_eq!(rt;
+        Numbers(&[30, 0, 4294967295]).to_string(heap)?.as_str(),
+        "30 0 4294967295"
+    );
     Ok(())
 }

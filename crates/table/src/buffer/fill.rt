@@ -1,15 +1,15 @@
 // Filling a table and lending it.
 ghost use Rattle.std.specs.Prelude.{◌≡◌, [], length, IfOk};
-ghost use Rattle.table.specs.Buffer.{Added, buffer_pairs, buffer_rules, pair_refusal};
+ghost use Rattle.table.specs.Buffer.{Added, buffer_count, buffer_pairs, buffer_rules, pair_refusal};
 ghost use Rattle.table.specs.Meaning.{pairs_of, rules_of};
+ghost use Rattle.table.specs.Refusals.{verdict};
 ghost use Rattle.table.specs.Rules.{no_rules, with_letter};
 
 use crate::buffer::TableBuf;
 use crate::fault::{AddError, Refusal};
-use crate::layout::{pair_numbers, set_weights};
+use crate::layout::{known_letters, set_weights};
 use crate::piece::{Pair, Weights};
 use crate::view::Table;
-use crate::view::check::is_foreign;
 use std::alloc::{AllocError, Global};
 
 impl TableBuf {
@@ -21,7 +21,6 @@ impl TableBuf {
         Ok(TableBuf {
             letters,
             pairs: Vec::new(heap),
-            count: 0,
         })
     }
 
@@ -37,31 +36,34 @@ impl TableBuf {
     pub fn add_pair(&mut self, pair: Pair) -> Result<(), AddError>
         ensures { Added self.old pair result self.new }
     {
-        if let Some(why) = self.refuses(pair) {
-            return Err(AddError::Refused(why));
-        }
-        self.pairs.extend_from_slice(&pair_numbers(pair))?;
-        self.count += 1;
+        self.allows(pair)?;
+        self.pairs.extend_from_slice(&<[u16; 5]>::from(pair))?;
         Ok(())
     }
 
-    // Why one pair more would be turned away.
-    fn refuses(&self, pair: Pair) -> Option<Refusal>
-        ensures { result ≡ pair_refusal (buffer_rules self.now) (length (buffer_pairs self.now)) pair }
+    // Whether one pair more would be taken.
+    fn allows(&self, pair: Pair) -> Result<(), Refusal>
+        ensures { result ≡ verdict (pair_refusal (buffer_rules self.now) (length (buffer_pairs self.now)) pair) }
     {
-        if self.count >= Table::MAX_PAIRS {
-            Some(Refusal::TooMany)
-        } else if is_foreign(pair.first, pair.second) {
-            Some(Refusal::Foreign(self.count))
-        } else if self
-            .table()
-            .pair(pair.first as u8, pair.second as u8)
-            .is_some()
-        {
-            Some(Refusal::Twice(self.count))
-        } else {
-            None
+        let place = self.pair_count();
+        if place >= Table::MAX_PAIRS {
+            return Err(Refusal::TooMany);
         }
+        let Some((first, second)) = known_letters(pair.first, pair.second) else {
+            return Err(Refusal::Foreign(place));
+        };
+        if self.table().pair(first, second).is_some() {
+            return Err(Refusal::Twice(place));
+        }
+        Ok(())
+    }
+
+    // How many pairs have been added.
+    fn pair_count(&self) -> usize
+        ensures numbers { result ≡ buffer_count self.now }
+        ensures pairs { result ≡ length (buffer_pairs self.now) }
+    {
+        self.pairs.len() / 5
     }
 
     // The numbers as a table.
@@ -72,8 +74,8 @@ impl TableBuf {
         Table::check(
             self.letters.as_slice(),
             self.pairs.as_slice(),
-            self.count as u64,
+            self.pair_count() as u64,
         )
-        .table
+        .unwrap()
     }
 }

@@ -1,11 +1,10 @@
 // Looking up what letters weigh.
-ghost use Rattle.std.specs.Prelude.{◌≡◌, ◌<◌, [], ◌∷◌, length, IfSome};
+ghost use Rattle.std.specs.Prelude.{◌≡◌, [], ◌∷◌, length};
 ghost use Rattle.std.specs.List.{slice_get};
 ghost use Rattle.table.specs.Meaning.{pairs_of, rules_of};
-ghost use Rattle.table.specs.Numbers.{place_in};
 ghost use Rattle.table.specs.Rules.{contraction};
 
-use crate::layout::{read_pair, weights_at};
+use crate::layout::weights_at;
 use crate::piece::{Pair, Weights};
 use crate::view::Table;
 
@@ -28,34 +27,20 @@ impl Table<'_> {
     pub fn pair(&self, first: u8, second: u8) -> Option<Weights>
         ensures { result ≡ contraction (rules_of self.now) (first ∷ (second ∷ [])) }
     {
-        match self.pair_place(first, second) {
-            Some(k) => Some(weights_at(self.pairs, 5 * k + 2)),
-            None => None,
-        }
-    }
-
-    // The place of the pair of two letters.
-    fn pair_place(&self, first: u8, second: u8) -> Option<usize>
-        ensures place { result ≡ place_in self.now.pairs.now self.now.count first second }
-        ensures bound { IfSome result (λ k. k < self.now.count) }
-    {
-        self.chains.locate(self.pairs, self.count, first, second)
+        self.pairs.weights(first, second)
     }
 
     // How many pairs there are.
     pub fn pair_count(&self) -> usize
         ensures { result ≡ length (pairs_of self.now) }
     {
-        self.count
+        self.pairs.len()
     }
 
     // The pair at a place, counted from 0.
     pub fn pair_at(&self, place: usize) -> Option<Pair>
         ensures { result ≡ slice_get (pairs_of self.now) place }
     {
-        if place >= self.count {
-            return None;
-        }
-        Some(read_pair(self.pairs, place))
+        self.pairs.get(place)
     }
 }

@@ -5,4 +5,4 @@ use Rattle.keys.proofs.numbers.KeyNumbers.new.Goals as goal
 
 pub returns : goal.returns
 unfolding key
-returns c = ap (λ r. numbers_left (record { row = r })) c.new.ensures.start
+returns c = ap (λ r. numbers_left (record { row = r; name = c.args.name })) c.new.ensures.start

@@ -1,10 +1,13 @@
-use Rattle.std.proofs.Common.{length, ap, ◌∙◌, arith}
+use Rattle.std.proofs.Common.{◌+◌, ◌-◌, ◌^◌, min, length, ap, ◌∙◌, arith, rules}
+use Rattle.std.proofs.lemmas.Iterator.Consumers.{fold_from_yields_List}
+use borrow.Author.Tests.{tests}
 use Rattle.keys.specs.Reading.{numbers_left}
+use Rattle.keys.proofs.Filling.{counted, given}
 use Rattle.keys.proofs.sort_key.TableSortKeys.key_len.Goals as goal
 
 pub returns : goal.returns
 returns c =
-    let none = ap length c.in-None.ensures.steps.0 in
-    let all = ap length (ap numbers_left c.into_iter-iterator.ensures.into_iter_gives ∙ c.new-items.ensures) in
-    let inv = c.loop.invariant.3 in
+    let f = fold_from_yields_List _ (λ n x. min (n + 1) (2 ^ 64 - 1)) 0 c.fold.result c.fold.ensures.ran (given c.new.result) (λ a x b q k. search (rules, tests))
+    ∙ counted (numbers_left c.new.result) 0 (2 ^ 64 - 1) (omega arith) in
+    let k = ap length c.new.ensures in
     omega arith

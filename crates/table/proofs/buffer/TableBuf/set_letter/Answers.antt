@@ -1,4 +1,5 @@
-use Rattle.std.proofs.Common.{◌*◌, length, is_some, vec_items, refl, ap, ◌∙◌, arith}
+use Rattle.std.proofs.Common.{◌*◌, length, vec_items, ap, ◌∙◌, arith}
+use Rattle.table.specs.Buffer.{buffer_count}
 use Rattle.table.specs.Rules.{rules_in}
 use Rattle.table.proofs.Refusing.{sound, refusal_letters}
 use Rattle.table.proofs.Setting.{length_written, letter_set}
@@ -11,15 +12,11 @@ pub invariant_of-self : goal.invariant_of-self
 invariant_of-self c =
     let b = c.args.self.now in
     let e = ap length c.set_weights.ensures ∙ length_written (vec_items b.letters) (3 * c.args.letter) c.args.weights in
-    record { sound = ap is_some (refusal_letters (vec_items b.letters) _ (vec_items b.pairs) b.count e) ∙ b.sound }
+    record { sound = refusal_letters (vec_items b.letters) _ (vec_items b.pairs) (buffer_count b) e ∙ b.sound }
 
-pub returns : goal.returns
-returns c =
+pub returns-clause-rules : goal.returns-clause-rules
+returns-clause-rules c =
     let b = c.args.self.now in
     let s = (sound _ _ _ b.sound).whole in
-    record {
-      rules =
-          ap (λ ls. rules_in ls (vec_items b.pairs) b.count) c.set_weights.ensures
-          ∙ letter_set (vec_items b.letters) (vec_items b.pairs) b.count c.args.letter c.args.weights (omega arith);
-      pairs = refl;
-    }
+    ap (λ ls. rules_in ls (vec_items b.pairs) (buffer_count b)) c.set_weights.ensures
+    ∙ letter_set (vec_items b.letters) (vec_items b.pairs) (buffer_count b) c.args.letter c.args.weights (omega arith)

@@ -1,31 +1,35 @@
-use Rattle.std.proofs.Common.{sym, refl, ◌∙◌}
-use Rattle.table.proofs.Refusing.{by_shape, shape_sound, has_foreign, has_twice, no_refusal}
+use Rattle.std.proofs.Common.{length, sym, ◌∙◌}
+use Rattle.table.proofs.Refusing.{by_shape, fifth, has_foreign, no_refusal, refused, shape_sound, taken, turned_away, twice_left}
 use Rattle.table.proofs.view.Table.check.Goals as goal
+
+pub returns-in_err-check_shape : goal.returns-in_err-check_shape
+returns-in_err-check_shape c =
+    let o = turned_away _ _ (sym c.in_err-check_shape.was ∙ c.check_shape.ensures) in
+    refused _ _ _ _ _ c.from_residual.ensures.1 (by_shape _ _ _ _ o)
 
 pub returns-in-Some : goal.returns-in-Some
 returns-in-Some c =
-    let e = by_shape c.args.letters.now c.args.pairs.now c.args.how_many c.in-Some.why (sym c.in-Some.ensures) in
-    let r = c.refused.ensures in
-    record { refusal = r.refusal ∙ sym e; rules = rw r.refusal r.rules; pairs = rw r.refusal r.pairs }
+    let s = shape_sound _ _ _ (taken _ (sym c.in_ok-check_shape.was ∙ c.check_shape.ensures)) in
+    let n = fifth _ _ s.1 in
+    let f = sym c.first_foreign.ensures ∙ c.in-Some.is in
+    has_foreign c.args.letters.now c.args.pairs.now c.args.how_many s.0 s.1 s.2 _ (rw n at f)
 
-pub returns-in-Some-first_foreign : goal.returns-in-Some-first_foreign
-returns-in-Some-first_foreign c =
-    let s = shape_sound _ _ _ (sym c.in_default.ensures) in
-    let e = has_foreign c.args.letters.now c.args.pairs.now c.args.how_many s.0 s.1 s.2 c.in-Some-first_foreign.k (sym c.in-Some-first_foreign.ensures) in
-    let r = c.refused-in-Some-first_foreign.ensures in
-    record { refusal = r.refusal ∙ sym e; rules = rw r.refusal r.rules; pairs = rw r.refusal r.pairs }
-
-pub returns-in-Some-twice : goal.returns-in-Some-twice
-returns-in-Some-twice c =
-    let s = shape_sound _ _ _ (sym c.in_default.ensures) in
-    let t = sym c.chain_all-chained.ensures.twice ∙ c.in-Some-twice.is in
-    let e = has_twice c.args.letters.now c.args.pairs.now c.args.how_many s.0 s.1 s.2 (sym c.in_default-first_foreign.ensures) c.in-Some-twice.k t in
-    let r = c.refused-in-Some-twice.ensures in
-    record { refusal = r.refusal ∙ sym e; rules = rw r.refusal r.rules; pairs = rw r.refusal r.pairs }
+pub returns-in_err-pairs : goal.returns-in_err-pairs
+returns-in_err-pairs c =
+    let o = taken _ (sym c.in_ok-check_shape.was ∙ c.check_shape.ensures) in
+    let n = fifth (length c.args.pairs.now) c.args.how_many (shape_sound _ _ _ o).1 in
+    let f = sym c.first_foreign.ensures ∙ c.in_default.is in
+    let t = c.in_err-pairs.ensures in
+    refused _ _ _ _ _ c.from_residual-in_err-pairs.ensures.1 (twice_left _ _ _ o (rw n at f) ∙ rw n at t)
 
 pub returns : goal.returns
 returns c =
-    let s = shape_sound _ _ _ (sym c.in_default.ensures) in
-    let t = sym c.chain_all-chained.ensures.twice ∙ c.in_default-twice.is in
-    let e = no_refusal c.args.letters.now c.args.pairs.now c.args.how_many s.0 s.1 s.2 (sym c.in_default-first_foreign.ensures) t in
-    record { refusal = sym e; rules = refl; pairs = refl }
+    let s = shape_sound _ _ _ (taken _ (sym c.in_ok-check_shape.was ∙ c.check_shape.ensures)) in
+    let n = fifth _ _ s.1 in
+    let f = sym c.first_foreign.ensures ∙ c.in_default.is in
+    let p = c.in_ok-pairs.ensures in
+    let a = c.in_ok-pairs.pairs.apart in (
+      no_refusal c.args.letters.now c.args.pairs.now c.args.how_many s.0 s.1 s.2 (rw n at f) (rw (p.0, p.1, n) at a),
+      rw (p.0, p.1, n),
+      rw (p.0, p.1, n),
+    )

@@ -1,17 +1,12 @@
-use Rattle.std.proofs.Common.{◌≡◌, sym, arith}
+use Rattle.std.proofs.Common.{◌≡◌, ◌/◌, true, false, length, rules, sym}
+use Rattle.std.proofs.lemmas.Iterator.{first_from_Range}
+use borrow.Author.Tests.{tests}
 use Rattle.table.specs.Refusals.{foreign}
-use Rattle.table.proofs.Firsts.{none_yet, none_more, first_is}
+use Rattle.table.proofs.Firsts.{looked_through}
 use Rattle.table.proofs.view.check.first_foreign.Goals as goal
 
-pub loop-k-init : goal.loop-k-init
-loop-k-init c = none_yet (foreign c.args.pairs.now)
-
-pub returns-then-is_foreign : goal.returns-then-is_foreign
-returns-then-is_foreign c =
-    sym (first_is (foreign c.args.pairs.now) c.loop-k.k c.loop-k.invariant (sym c.if-is_foreign.ensures) c.args.count (omega arith))
-
-pub loop-k-preserved : goal.loop-k-preserved
-loop-k-preserved c = none_more (foreign c.args.pairs.now) c.loop-k.k c.loop-k.invariant (sym c.if-is_foreign.ensures)
-
 pub returns : goal.returns
-returns c = let e : c.loop-k.k ≡ c.args.count = omega arith in let i = c.loop-k.invariant in sym (rw e at i)
+returns c =
+    let ps = c.args.pairs.now in
+    sym (looked_through (foreign ps) (length ps / 5) c.find.result
+    (first_from_Range _ _ _ _ (λ k. foreign ps k ≡ true) (λ k. foreign ps k ≡ false) c.find.ensures.ran (λ x q k. search (rules, tests)) (λ x q k. search (rules, tests))))

@@ -1,0 +1,17 @@
+use Rattle.std.proofs.Common.{arith, sym}
+use Rattle.table.specs.Refusals.{foreign, repeated}
+use Rattle.table.proofs.Chaining.{no_heads}
+use Rattle.table.proofs.Firsts.{none_yet}
+use Rattle.table.proofs.pairs.Pairs.new.Goals as goal
+
+pub invariant_of-result : goal.invariant_of-result
+invariant_of-result c =
+    let ps = c.args.numbers.now in
+    record {
+      within = omega arith;
+      few = omega arith;
+      known = none_yet (foreign ps);
+      apart = none_yet (repeated ps);
+      begun = sym (no_heads ps);
+      linked = λ k l. absurd (omega arith);
+    }

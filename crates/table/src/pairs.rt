@@ -1,0 +1,25 @@
+// The pairs of a table, five numbers each: two letters and three weights. Those that begin with the same letter are chained
+// from the last to the first, so that looking one up meets no pair that begins with another letter.
+ghost use Rattle.std.specs.Prelude.{◌≡◌, ℕ, ◌*◌, ◌<◌, ◌≤◌, length, None, slice_index_or};
+ghost use Rattle.table.specs.Chain.{heads_of, link_of};
+ghost use Rattle.table.specs.Refusals.{first_place, foreign, repeated};
+
+mod chain;
+mod find;
+
+#[derive(Clone, Copy)]
+pub struct Pairs<'a> {
+    numbers: &'a [u16],
+    // How many of them are chained: the first so many.
+    count: usize,
+    // For each letter the last pair that begins with it.
+    heads: [Option<u8>; 256],
+    // For each pair the one before it that begins with the same letter.
+    links: [Option<u8>; 200],
+    ghost within: { 5 * count ≤ length numbers.now },
+    ghost few: { count ≤ 200 },
+    ghost known: { first_place (foreign numbers.now) count ≡ None },
+    ghost apart: { first_place (repeated numbers.now) count ≡ None },
+    ghost begun: { heads ≡ heads_of numbers.now count },
+    ghost linked: { (k : ℕ) → k < count → slice_index_or links k None ≡ link_of numbers.now k },
+}

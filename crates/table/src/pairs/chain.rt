@@ -1,0 +1,55 @@
+// Chaining pairs.
+ghost use Rattle.std.specs.Prelude.{◌≡◌, ◌+◌, ◌*◌, ◌/◌, ◌<◌, ◌≤◌, false, length, None};
+ghost use Rattle.table.specs.Meaning.{AllChained, AreChained};
+ghost use Rattle.table.specs.Numbers.{first_at};
+ghost use Rattle.table.specs.Refusals.{first_place, foreign, repeated};
+
+use crate::fault::Refusal;
+use crate::pairs::Pairs;
+
+impl<'a> Pairs<'a> {
+    // No pair is chained yet.
+    pub(crate) fn new(numbers: &'a [u16]) -> Pairs<'a>
+        ensures { AreChained numbers.now 0 result }
+    {
+        Pairs {
+            numbers,
+            count: 0,
+            heads: [None; 256],
+            links: [None; 200],
+        }
+    }
+
+    // All pairs chained one after the other, or the first that equals an earlier one.
+    pub(crate) fn chain(numbers: &'a [u16]) -> Result<Pairs<'a>, Refusal>
+        requires few { length numbers.now / 5 ≤ 200 }
+        requires known { first_place (foreign numbers.now) (length numbers.now / 5) ≡ None }
+        ensures { AllChained numbers.now result }
+    {
+        let mut pairs = Pairs::new(numbers);
+        for place in 0..numbers.len() / 5 {
+            let first = numbers[5 * place] as u8;
+            let second = numbers[5 * place + 1] as u8;
+            if pairs.locate(first, second).is_some() {
+                return Err(Refusal::Twice(place));
+            }
+            pairs.link(first);
+        }
+        Ok(pairs)
+    }
+
+    // The next pair is chained, in front of those that begin with the same letter.
+    fn link(&mut self, first: u8)
+        requires within { 5 * self.old.count + 5 ≤ length self.old.numbers.now }
+        requires few { self.old.count < 200 }
+        requires first { first_at self.old.numbers.now self.old.count ≡ first }
+        requires known { foreign self.old.numbers.now self.old.count ≡ false }
+        requires apart { repeated self.old.numbers.now self.old.count ≡ false }
+        ensures { AreChained self.old.numbers.now (self.old.count + 1) self.new }
+    {
+        let letter = first as usize;
+        self.links[self.count] = self.heads[letter];
+        self.heads[letter] = Some(self.count as u8);
+        self.count += 1;
+    }
+}

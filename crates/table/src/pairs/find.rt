@@ -1,0 +1,51 @@
+// Finding pairs.
+ghost use Rattle.std.specs.Prelude.{◌≡◌, ◌+◌, ◌*◌, ◌<◌, IfSome};
+ghost use Rattle.std.specs.List.{slice_get};
+ghost use Rattle.std.specs.Option.{option_map};
+ghost use Rattle.table.specs.Numbers.{pairs_in, place_in, weights_at};
+
+use crate::layout::{read_pair, weights_at};
+use crate::pairs::Pairs;
+use crate::piece::{Pair, Weights};
+
+impl Pairs<'_> {
+    pub(crate) fn len(&self) -> usize
+        ensures { result ≡ self.now.count }
+    {
+        self.count
+    }
+
+    // The pair at a place, counted from 0.
+    pub(crate) fn get(&self, place: usize) -> Option<Pair>
+        ensures { result ≡ slice_get (pairs_in self.now.numbers.now self.now.count) place }
+    {
+        if place >= self.count {
+            return None;
+        }
+        Some(read_pair(self.numbers, place))
+    }
+
+    // What two letters weigh together, where they are a pair.
+    pub(crate) fn weights(&self, first: u8, second: u8) -> Option<Weights>
+        ensures { result ≡ option_map (λ k. weights_at self.now.numbers.now (5 * k + 2)) (place_in self.now.numbers.now self.now.count first second) }
+    {
+        let place = self.locate(first, second)?;
+        Some(weights_at(self.numbers, 5 * place + 2))
+    }
+
+    // The place of the pair of two letters.
+    pub(crate) fn locate(&self, first: u8, second: u8) -> Option<usize>
+        ensures place { result ≡ place_in self.now.numbers.now self.now.count first second }
+        ensures bound { IfSome result (λ k. k < self.now.count) }
+    {
+        let mut at = self.heads[first as usize];
+        while let Some(place) = at {
+            let k = place as usize;
+            if self.numbers[5 * k + 1] == second as u16 {
+                return Some(k);
+            }
+            at = self.links[k];
+        }
+        None
+    }
+}
