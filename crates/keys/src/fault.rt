@@ -22,7 +22,7 @@ impl NameRefusal {
         None
     }
 
-    // The number that is reported.
+    // The number that is reported. Messages and `make_key` say it as a number.
     pub fn number(self) -> u64
         ensures { result ≡ name_refusal_number self }
     {

@@ -22,9 +22,9 @@ abbrev pub AreChained : List ℕ → (n : ℕ) → Pairs → Type 0
 AreChained ps n p = (p.numbers.now ≡ ps) × (p.count ≡ n)
 
 -- all are, or the first that equals an earlier one is told
-abbrev pub AllChained : List ℕ → Result Pairs Refusal → Type 0
-AllChained ps (Ok p) = AreChained ps (length ps / 5) p
-AllChained ps (Err why) = at_place Twice (first_place (repeated ps) (length ps / 5)) None ≡ Some why
+abbrev pub AllChained : List ℕ → Result Unit Refusal → Pairs → Type 0
+AllChained ps (Ok x) p = AreChained ps (length ps / 5) p
+AllChained ps (Err why) p = at_place Twice (first_place (repeated ps) (length ps / 5)) None ≡ Some why
 
 -- numbers are a table, which says what they say; or they are turned away
 abbrev pub Checked : (letters pairs : List ℕ) → (n : ℕ) → Result Table Refusal → Type 0

@@ -10,7 +10,8 @@ mod find;
 #[derive(Clone, Copy)]
 pub struct Pairs<'a> {
     numbers: &'a [u16],
-    // How many of them are chained: the first so many.
+    // How many of them are chained: the first so many. Arrays of a fixed length and places in them, and not a list for each
+    // letter, since a table asks for no memory.
     count: usize,
     // For each letter the last pair that begins with it.
     heads: [Option<u8>; 256],

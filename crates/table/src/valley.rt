@@ -276,7 +276,7 @@ pub fn valley_letters() -> &'static [u16]
     &VALLEY_LETTERS
 }
 
-// The numbers of the pair.
+// The numbers of the pair. A function beside the other, and not one with a choice, since each promises a list of its own.
 pub fn valley_pairs() -> &'static [u16]
     ensures { result.now ≡ valley_pair }
 {

@@ -18,7 +18,7 @@ pub enum Fault {
 }
 
 impl Fault {
-    // The number that is reported: 1 a table, 2 a name, 3 a text.
+    // The number that is reported: 1 a table, 2 a name, 3 a text. The message says it as a number.
     pub fn number(self) -> u64
         ensures { result ≡ fault_number self }
     {

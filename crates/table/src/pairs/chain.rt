@@ -20,22 +20,22 @@ impl<'a> Pairs<'a> {
         }
     }
 
-    // All pairs chained one after the other, or the first that equals an earlier one.
-    pub(crate) fn chain(numbers: &'a [u16]) -> Result<Pairs<'a>, Refusal>
-        requires few { length numbers.now / 5 ≤ 200 }
-        requires known { first_place (foreign numbers.now) (length numbers.now / 5) ≡ None }
-        ensures { AllChained numbers.now result }
+    // All pairs are chained one after the other, up to the first that equals an earlier one, which is told.
+    pub(crate) fn chain(&mut self) -> Result<(), Refusal>
+        requires none { self.old.count ≡ 0 }
+        requires few { length self.old.numbers.now / 5 ≤ 200 }
+        requires known { first_place (foreign self.old.numbers.now) (length self.old.numbers.now / 5) ≡ None }
+        ensures { AllChained self.old.numbers.now result self.new }
     {
-        let mut pairs = Pairs::new(numbers);
-        for place in 0..numbers.len() / 5 {
-            let first = numbers[5 * place] as u8;
-            let second = numbers[5 * place + 1] as u8;
-            if pairs.locate(first, second).is_some() {
+        for place in 0..self.numbers.len() / 5 {
+            let first = self.numbers[5 * place] as u8;
+            let second = self.numbers[5 * place + 1] as u8;
+            if self.locate(first, second).is_some() {
                 return Err(Refusal::Twice(place));
             }
-            pairs.link(first);
+            self.link(first);
         }
-        Ok(pairs)
+        Ok(())
     }
 
     // The next pair is chained, in front of those that begin with the same letter.

@@ -16,6 +16,7 @@ impl Pairs<'_> {
     }
 
     // The pair at a place, counted from 0.
+    #[tactic(auto, using(crate::proofs::Places::nth_pair, crate::proofs::Places::nth_none))]
     pub(crate) fn get(&self, place: usize) -> Option<Pair>
         ensures { result ≡ slice_get (pairs_in self.now.numbers.now self.now.count) place }
     {

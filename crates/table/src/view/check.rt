@@ -13,7 +13,8 @@ static NO_WEIGHTS: [u16; 768] = [0; 768];
 
 impl<'a> Table<'a> {
     // Lent numbers as a table: three weights for each of the 256 letters, and five numbers for each of `how_many`
-    // pairs, two letters and their three weights.
+    // pairs, two letters and their three weights. They are taken as they are lent, and not as a struct, for callers
+    // who hold none of this library's types.
     pub fn check(letters: &'a [u16], pairs: &'a [u16], how_many: u64) -> Result<Table<'a>, Refusal>
         ensures { Checked letters.now pairs.now how_many result }
     {
@@ -21,7 +22,8 @@ impl<'a> Table<'a> {
         if let Some(place) = first_foreign(pairs) {
             return Err(Refusal::Foreign(place));
         }
-        let pairs = Pairs::chain(pairs)?;
+        let mut pairs = Pairs::new(pairs);
+        pairs.chain()?;
         Ok(Table { letters, pairs })
     }
 }
@@ -30,6 +32,7 @@ impl<'a> Table<'a> {
 impl<'a> Default for Table<'a> {
     ghost is_default = { λ t. (rules_of t ≡ no_rules) × (pairs_of t ≡ []) };
 
+    #[tactic(auto, using(crate::proofs::Saying::blank_rules))]
     fn default() -> Table<'a> {
         Table {
             letters: &NO_WEIGHTS,

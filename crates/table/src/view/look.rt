@@ -17,6 +17,7 @@ impl Table<'_> {
     pub const MAX_NAME: usize = 1000;
 
     // What a letter weighs.
+    #[tactic(auto, unfolding(crate::specs::Rules::weighs_in))]
     pub fn letter(&self, letter: u8) -> Weights
         ensures { result ≡ (rules_of self.now).weighs (letter ∷ []) }
     {
@@ -24,6 +25,7 @@ impl Table<'_> {
     }
 
     // What two letters weigh together, where they are one.
+    #[tactic(auto, using(crate::proofs::Places::contracts))]
     pub fn pair(&self, first: u8, second: u8) -> Option<Weights>
         ensures { result ≡ contraction (rules_of self.now) (first ∷ (second ∷ [])) }
     {

@@ -14,21 +14,24 @@ returns-in-Some c =
     let f = sym c.first_foreign.ensures ∙ c.in-Some.is in
     has_foreign c.args.letters.now c.args.pairs.now c.args.how_many s.0 s.1 s.2 _ (rw n at f)
 
-pub returns-in_err-pairs : goal.returns-in_err-pairs
-returns-in_err-pairs c =
+pub returns-in_err-chain : goal.returns-in_err-chain
+returns-in_err-chain c =
     let o = taken _ (sym c.in_ok-check_shape.was ∙ c.check_shape.ensures) in
     let n = fifth (length c.args.pairs.now) c.args.how_many (shape_sound _ _ _ o).1 in
     let f = sym c.first_foreign.ensures ∙ c.in_default.is in
-    let t = c.in_err-pairs.ensures in
-    refused _ _ _ _ _ c.from_residual-in_err-pairs.ensures.1 (twice_left _ _ _ o (rw n at f) ∙ rw n at t)
+    let b = c.new-pairs.ensures.0 in
+    let t = c.in_err-chain.ensures in
+    refused _ _ _ _ _ c.from_residual-in_err-chain.ensures.1 (twice_left _ _ _ o (rw n at f) ∙ rw (b, n) at t)
 
 pub returns : goal.returns
 returns c =
     let s = shape_sound _ _ _ (taken _ (sym c.in_ok-check_shape.was ∙ c.check_shape.ensures)) in
     let n = fifth _ _ s.1 in
     let f = sym c.first_foreign.ensures ∙ c.in_default.is in
-    let p = c.in_ok-pairs.ensures in
-    let a = c.in_ok-pairs.pairs.apart in (
+    let b = c.new-pairs.ensures.0 in
+    let q = c.in_ok-chain.ensures in
+    let p = rw b at q in
+    let a = c.chain.new.self.apart in (
       no_refusal c.args.letters.now c.args.pairs.now c.args.how_many s.0 s.1 s.2 (rw n at f) (rw (p.0, p.1, n) at a),
       rw (p.0, p.1, n),
       rw (p.0, p.1, n),
