@@ -1,6 +1,5 @@
 -- Steps along a row: what one takes, and what is left then.
-use Rattle.std.specs.Bool.{then_some}
-use Rattle.std.proofs.Common.{◌≡◌, ℕ, ◌+◌, ◌<◌, Bool, true, false, not, cond, eqb, List, [], ◌∷◌, length, drop, IfSome, Some, None, Option, Bor, sym, refl, ap, ◌∙◌, subst, arith}
+use Rattle.std.proofs.Common.{◌≡◌, ℕ, ◌+◌, ◌<◌, cond, eqb, List, [], ◌∷◌, length, drop, Some, None, Option, Bor, sym, refl, ap, ◌∙◌, subst, arith}
 use Rattle.std.proofs.lemmas.Bool.{cond-false, cond-true, eq-eqb, ne_eqb}
 use Rattle.std.proofs.lemmas.List.{drop-drop}
 use Rattle.table.specs.declared.piece.Weights.{Weights}
@@ -67,16 +66,3 @@ module _ (r : Row) where
   pub passes : (x k : ℕ) (rest : Bor (List ℕ)) (o : Option ℕ) (s : Row) → Rowed (moved rest) o s → rest.now ≡ drop k r.rest.now → row_left r ≡ led r.level rules x rest.now → x ≡ 0 → Rowed r o s
   passes x k rest None s w d e z = (e ∙ (cond-true (eqb x 0) _ _ (eq-eqb x 0 z) ∙ w.0), w.1, further k rest d s w.2)
   passes x k rest (Some y) s w d e z = (e ∙ (cond-true (eqb x 0) _ _ (eq-eqb x 0 z) ∙ w.0), w.1, further k rest d s w.2)
-
--- what the iterator over a row answers for a step's weight
-pub counts : (x : ℕ) → then_some (not (eqb x 0)) x ≡ some_weight x
-counts x = go (eqb x 0)
-  where
-    go : (b : Bool) → then_some (not b) x ≡ cond b None (Some x)
-    go true = refl
-    go false = refl
-
--- where a weight was handed back, less is left
-pub less_left : (r s : Row) (o : Option ℕ) → Rowed r o s → IfSome o (λ x. Unit {0} × Unit {0} × (length (row_left s) < length (row_left r)))
-less_left r s None e = tt
-less_left r s (Some x) e = (tt, tt, (let l = ap length e.0 in omega arith))
