@@ -1,4 +1,5 @@
 pub mod Chaining
+pub mod Chunks
 pub mod Firsts
 pub mod Places
 pub mod Refusing

@@ -27,9 +27,9 @@ impl<'a> Pairs<'a> {
         requires known { first_place (foreign self.old.numbers.now) (length self.old.numbers.now / 5) ≡ None }
         ensures { AllChained self.old.numbers.now result self.new }
     {
-        for place in 0..self.numbers.len() / 5 {
-            let first = self.numbers[5 * place] as u8;
-            let second = self.numbers[5 * place + 1] as u8;
+        for (place, pair) in self.numbers.chunks_exact(5).enumerate() {
+            let first = pair[0] as u8;
+            let second = pair[1] as u8;
             if self.locate(first, second).is_some() {
                 return Err(Refusal::Twice(place));
             }

@@ -1,34 +1,51 @@
-use Rattle.std.proofs.Common.{is_some, ap, sym, ◌∙◌, arith}
-use Rattle.table.specs.Refusals.{foreign, repeated}
-use Rattle.table.proofs.Firsts.{first_is, none_at}
-use Rattle.table.proofs.Places.{first_known, second_known}
+use Rattle.std.proofs.Common.{◌≡◌, ◌+◌, is_some, ap, sym, ◌∙◌, arith}
+use Rattle.table.specs.Refusals.{repeated}
+use Rattle.table.proofs.Chunks.{behind_chunk, chunk_there, first_fits, first_in, not_foreign, second_fits, second_in}
+use Rattle.table.proofs.Firsts.{first_is}
 use Rattle.table.proofs.pairs.Pairs.chain.Goals as goal
 
 pub overflow_cast-first : goal.overflow_cast-first
 overflow_cast-first c =
     let i = c.loop-place.invariant in
-    let k = c.loop-place.place in
-    let f = none_at (foreign c.args.self.now.numbers.now) _ c.requires.known k c.loop-place-test.true in
-    let l = first_known c.args.self.now.numbers.now k f in
-    rw (i.0) (omega arith)
+    let s = c.in-Some.ensures.steps.0.1 in
+    let l = first_fits c.args.self.now.numbers.now c.loop-place.self.count _ _ (sym i.3 ∙ s.0) (s.1 ∙ i.2) c.requires.known in
+    omega arith
 
 pub overflow_cast-second : goal.overflow_cast-second
 overflow_cast-second c =
     let i = c.loop-place.invariant in
-    let k = c.loop-place.place in
-    let f = none_at (foreign c.args.self.now.numbers.now) _ c.requires.known k c.loop-place-test.true in
-    let l = second_known c.args.self.now.numbers.now k f in
-    rw (i.0) (omega arith)
+    let s = c.in-Some.ensures.steps.0.1 in
+    let l = second_fits c.args.self.now.numbers.now c.loop-place.self.count _ _ (sym i.3 ∙ s.0) (s.1 ∙ i.2) c.requires.known in
+    omega arith
 
 pub returns-then-is_some : goal.returns-then-is_some
 returns-then-is_some c =
+    let ps = c.args.self.now.numbers.now in
     let i = c.loop-place.invariant in
+    let q = c.in-Some.ensures.steps in
+    let k = c.loop-place.self.count in
+    let e = sym i.3 ∙ q.0.1.0 in
+    let l = q.0.1.1 ∙ i.2 in
+    let n : c.in-Some.place ≡ k = q.1 ∙ sym i.1 in
     let a = c.loop-place.self.apart in
-    let t = sym (c.if-is_some.ensures ∙ ap is_some c.locate.ensures.place) in
-    let f = first_is (repeated c.args.self.now.numbers.now) c.loop-place.place (rw (i.0, i.1) at a) (rw (i.0, i.1) at t) _ c.loop-place-test.true in
-    rw f
+    let o = c.if-is_some.ensures ∙ ap is_some c.locate.ensures.place in
+    let t = rw (i.0, first_in ps k _ _ e l, second_in ps k _ _ e l) at o in
+    let f = first_is (repeated ps) k (rw (i.0) at a) (sym t) _ (chunk_there ps k _ _ e l) in
+    rw (f, n)
 
 pub link-requires-clause-known : goal.link-requires-clause-known
 link-requires-clause-known c =
     let i = c.loop-place.invariant in
-    rw (i.0, i.1) (none_at (foreign c.args.self.now.numbers.now) _ c.requires.known c.loop-place.place c.loop-place-test.true)
+    let s = c.in-Some.ensures.steps.0.1 in
+    rw (i.0) (not_foreign c.args.self.now.numbers.now c.loop-place.self.count _ _ (sym i.3 ∙ s.0) (s.1 ∙ i.2) c.requires.known)
+
+pub loop-place-preserved : goal.loop-place-preserved
+loop-place-preserved c =
+    let i = c.loop-place.invariant in
+    let q = c.in-Some.ensures.steps in
+    let n = c.link.ensures.1 in (
+      c.link.ensures.0 ∙ i.0,
+      n ∙ (ap (λ k. k + 1) i.1 ∙ sym q.2),
+      q.0.0 ∙ i.2,
+      rw n (behind_chunk c.args.self.now.numbers.now c.loop-place.self.count _ _ (sym i.3 ∙ q.0.1.0) (q.0.1.1 ∙ i.2)),
+    )
