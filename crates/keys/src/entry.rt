@@ -7,8 +7,7 @@ use crate::numbers::KeyNumbers;
 use crate::sort_key::has_room;
 use table::Table;
 
-// What `make_key` answers: plain numbers, and not a `Result` with a refusal, since the entry is for callers who hold none of
-// this library's types.
+// What `make_key` answers: plain numbers, and not a `Result` with a refusal, since the entry keeps the signature that it has.
 #[derive(Clone, Copy, PartialEq, Eq, Debug)]
 pub enum Done {
     // The key stands in the first so many numbers of the room.

@@ -35,7 +35,7 @@ pub(crate) fn fill<T: Cell>(numbers: KeyNumbers, room: &mut [T]) -> usize
     ensures count { result ≡ length (numbers_left numbers.entry) }
     ensures room { room.new ≡ map T.cell (numbers_left numbers.entry) ++ drop result room.old }
 {
-    // `n` is what is answered: with a `zip` of the room's cells it would be counted all the same.
+    // Tried as a `zip` with the room's cells and `count`, which says nothing of what is left in the room: no proof.
     let mut n = 0;
     for number in numbers {
         room[n] = T::of(number);

@@ -13,6 +13,7 @@ use table::Table;
 #[derive(Drop)]
 pub struct KeyNumbers<'a, 't, 'n> {
     row: Row<'a, 't, 'n>,
+    // The whole name, for those rows.
     name: &'n [u8],
 }
 
@@ -39,8 +40,8 @@ impl Iterator for KeyNumbers<'_, '_, '_> {
         match self.row.next() {
             Some(weight) => Some(weight),
             None => {
-                self.row.level = self.row.level.behind()?;
-                self.row.rest = self.name;
+                let level = self.row.level.behind()?;
+                self.row = Row::new(self.row.table, level, self.name);
                 Some(0)
             }
         }

@@ -31,15 +31,14 @@ fn run(rt: &HostRuntime) -> anyhow::Result<usize> {
         return Ok(0);
     }
     let mut session = Session::new(rt.alloc())?;
-    let mut read = None;
-    for name in env::args(rt)?.skip(1) {
-        let before: Tally = read.unwrap_or_default();
-        read = Some(before.and(read_named(rt, &mut session, name.as_str())?));
+    let mut tally = Tally::default();
+    let mut names = env::args(rt)?.skip(1).peekable();
+    if names.peek().is_none() {
+        tally = read_named(rt, &mut session, "-")?;
     }
-    let tally = match read {
-        Some(tally) => tally,
-        None => read_named(rt, &mut session, "-")?,
-    };
+    for name in names {
+        tally = tally.and(read_named(rt, &mut session, name.as_str())?);
+    }
     if tally.asked == 0 {
         write_table(rt, &session.table())?;
     }

@@ -23,7 +23,7 @@ module _ (test : ℕ → Bool) where
   none_at zero e k l = absurd (omega arith)
   none_at (suc n) e k l = let ih = none_at n in grind arith
 
-  none_below : (n : ℕ) → ((k : ℕ) → k < n → test k ≡ false) → first_place test n ≡ None
+  pub none_below : (n : ℕ) → ((k : ℕ) → k < n → test k ≡ false) → first_place test n ≡ None
   unfolding first_place
   none_below zero h = refl
   none_below (suc n) h = let ih = none_below n (λ k l. h k (omega arith)) in let e = h n (omega arith) in grind arith

@@ -7,7 +7,7 @@ use Rattle.table.specs.Laws.{SamePair, KnownPair, IsTable, ExactlyTables, FirstF
 use Rattle.table.specs.Numbers.{first_at, second_at, place_in}
 use Rattle.table.specs.Refusals.{first_place, foreign, repeated, refusal_of}
 use Rattle.table.specs.Rules.{joins_in, weighs_in, weights_of}
-use Rattle.table.proofs.Firsts.{none_at}
+use Rattle.table.proofs.Firsts.{none_at, none_below}
 use Rattle.table.proofs.Growing.{refusal_more}
 use Rattle.table.proofs.Places.{place_below, first_known, second_known}
 use Rattle.table.proofs.Refusing.{sound, no_refusal, some_or_none, by_refusal}
@@ -49,11 +49,6 @@ foreign_from : (ps : List ℕ) (k : ℕ) → foreign ps k ≡ true → KnownPair
 foreign_from ps k e h = true≢false (sym e ∙ from_known ps k h)
 
 -- the first place that passes a test
-none_all : (test : ℕ → Bool) (n : ℕ) → ((k : ℕ) → k < n → test k ≡ false) → first_place test n ≡ None
-unfolding first_place
-none_all test zero h = refl
-none_all test (suc n) h = let ih = none_all test n (λ k l. h k (omega arith)) in let e = h n (omega arith) in rw (ih, e)
-
 module _ (test : ℕ → Bool) where
   first_below : (n k : ℕ) → first_place test n ≡ Some k → k < n
   unfolding first_place
@@ -84,8 +79,8 @@ exactly_tables ls ps n = (
     known = λ k l. known_from ps k (none_at (foreign ps) n s.known k l);
     apart = λ j k l m. once_from ps k (none_at (repeated ps) n s.apart k m) j l;
   },
-  λ t. no_refusal ls ps n t.whole t.fives t.few (none_all (foreign ps) n (λ k l. from_known ps k (t.known k l)))
-      (none_all (repeated ps) n (λ k l. from_once ps k (λ i m. t.apart i k m l))),
+  λ t. no_refusal ls ps n t.whole t.fives t.few (none_below (foreign ps) n (λ k l. from_known ps k (t.known k l)))
+      (none_below (repeated ps) n (λ k l. from_once ps k (λ i m. t.apart i k m l))),
 )
 
 foreign_at : (ls ps : List ℕ) (n k : ℕ) → refusal_of ls ps n ≡ Some (Foreign k) → first_place (foreign ps) n ≡ Some k

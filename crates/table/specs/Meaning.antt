@@ -9,7 +9,7 @@ use Rattle.table.specs.Numbers.{pairs_in}
 use Rattle.table.specs.Refusals.{at_place, first_place, refusal_of, repeated}
 use Rattle.table.specs.Rules.{Rules, rules_in}
 
--- its rules
+-- Its rules, and its pairs: two clauses where both are said, since most proofs cite one of them.
 abbrev pub rules_of : Table → Rules
 rules_of t = rules_in t.letters.now t.pairs.numbers.now t.pairs.count
 

@@ -38,14 +38,14 @@ impl Refusal {
     }
 }
 
-// Why something was not done: it was turned away, or there was no memory for it. Nothing has changed then.
+// Why something was not done: it was turned away, or there was no memory for it.
 #[derive(Clone, Copy, PartialEq, Eq, Debug)]
 pub enum Failure<R> {
     Refused(R),
     NoMemory,
 }
 
-// Why a pair was not added.
+// Why a pair was not added; nothing has changed then.
 pub type AddError = Failure<Refusal>;
 
 impl<R> From<AllocError> for Failure<R> {

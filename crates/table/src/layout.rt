@@ -37,7 +37,7 @@ pub(crate) fn set_weights(numbers: &mut Vec<u16>, at: usize, weights: Weights)
     numbers[at + 2] = weights.tertiary;
 }
 
-// The pair at a place. Read where it stands: a `From` of its five numbers would first want them as an array.
+// The pair at a place.
 pub(crate) fn read_pair(numbers: &[u16], place: usize) -> Pair
     requires { 5 * place + 4 < length numbers.now }
     ensures { result ≡ pair_at numbers.now place }

@@ -10,10 +10,9 @@ mod find;
 #[derive(Clone, Copy)]
 pub struct Pairs<'a> {
     numbers: &'a [u16],
-    // How many of them are chained: the first so many. Arrays of a fixed length and places in them, and not a list for each
-    // letter, since a table asks for no memory.
+    // How many of them are chained: the first so many, and all in a table. While they are chained it says how far that is.
     count: usize,
-    // For each letter the last pair that begins with it.
+    // For each letter the last pair that begins with it. Places in arrays, and not lists, since a table asks for no memory.
     heads: [Option<u8>; 256],
     // For each pair the one before it that begins with the same letter.
     links: [Option<u8>; 200],

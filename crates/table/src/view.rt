@@ -3,11 +3,12 @@ ghost use Rattle.std.specs.Prelude.{◌≡◌, ◌*◌, length};
 
 use crate::pairs::Pairs;
 
+mod blank;
 mod check;
 mod look;
 
-// Three weights for each letter, and the pairs of letters that are one together. That a view exists says that the numbers
-// passed the check: its ghost fields, and those of its pairs, are what the check found.
+// Three weights for each letter, and the pairs of letters that are one together. That a view exists says that its numbers
+// would pass the check: its ghost fields, and those of its pairs, are what the check finds.
 #[derive(Clone, Copy)]
 pub struct Table<'a> {
     letters: &'a [u16],

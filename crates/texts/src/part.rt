@@ -6,6 +6,7 @@ ghost use Rattle.texts.specs.Parts.{behind_word, parts, parts_left, without_retu
 
 use std::marker::Model;
 
+// A text cut at its first mark. `Parts` goes on from there.
 #[derive(Clone, Copy)]
 pub struct Cut<'a> {
     // Up to the first mark.

@@ -9,12 +9,10 @@ use crate::layout::known_letters;
 use crate::pairs::Pairs;
 use crate::view::Table;
 
-static NO_WEIGHTS: [u16; 768] = [0; 768];
-
 impl<'a> Table<'a> {
     // Lent numbers as a table: three weights for each of the 256 letters, and five numbers for each of `how_many`
-    // pairs, two letters and their three weights. They are taken as they are lent, and not as a struct, for callers
-    // who hold none of this library's types.
+    // pairs, two letters and their three weights. They are taken one by one, and not as a struct, as `make_key` takes
+    // them, whose signature stays as it is.
     pub fn check(letters: &'a [u16], pairs: &'a [u16], how_many: u64) -> Result<Table<'a>, Refusal>
         ensures { Checked letters.now pairs.now how_many result }
     {
@@ -25,19 +23,6 @@ impl<'a> Table<'a> {
         let mut pairs = Pairs::new(pairs);
         pairs.chain()?;
         Ok(Table { letters, pairs })
-    }
-}
-
-// A table in which nothing weighs anything and no two letters are one.
-impl<'a> Default for Table<'a> {
-    ghost is_default = { λ t. (rules_of t ≡ no_rules) × (pairs_of t ≡ []) };
-
-    #[tactic(auto, using(crate::proofs::Saying::blank_rules))]
-    fn default() -> Table<'a> {
-        Table {
-            letters: &NO_WEIGHTS,
-            pairs: Pairs::new(&[]),
-        }
     }
 }
 
@@ -61,5 +46,7 @@ fn check_shape(letters: usize, pairs: usize, how_many: u64) -> Result<(), Refusa
 fn first_foreign(pairs: &[u16]) -> Option<usize>
     ensures { result ≡ first_place (foreign pairs.now) (length pairs.now / 5) }
 {
-    (0..pairs.len() / 5).find(|&k| known_letters(pairs[5 * k], pairs[5 * k + 1]).is_none())
+    pairs
+        .chunks_exact(5)
+        .position(|pair| known_letters(pair[0], pair[1]).is_none())
 }

@@ -24,7 +24,7 @@ impl Table<'_> {
         weights_at(self.letters, 3 * letter as usize)
     }
 
-    // What two letters weigh together, where they are one.
+    // What two letters weigh together, where they are one. Two letters, and not a struct of them: a name has them one by one.
     #[tactic(auto, using(crate::proofs::Places::contracts))]
     pub fn pair(&self, first: u8, second: u8) -> Option<Weights>
         ensures { result ≡ contraction (rules_of self.now) (first ∷ (second ∷ [])) }
