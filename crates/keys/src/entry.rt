@@ -7,7 +7,7 @@ use crate::numbers::KeyNumbers;
 use crate::sort_key::has_room;
 use table::Table;
 
-// What `make_key` answers: plain numbers, and not a `Result` with a refusal, since it keeps its signature.
+// What `make_key` answers: plain numbers, and not a `Result` with a refusal, for callers who know tables by numbers alone.
 #[derive(Clone, Copy, PartialEq, Eq, Debug)]
 pub enum Done {
     // The key stands in the first so many numbers of the room.
@@ -19,7 +19,7 @@ pub enum Done {
 }
 
 // The key of a name under a table that is lent as numbers, written into the front of `room`. Nothing is allocated.
-// What it takes and answers stays as it is, plain numbers one by one.
+// What it takes are slices and a number, one by one, for callers who know tables by numbers alone.
 pub fn make_key(
     letters: &[u16],
     joins: &[u16],

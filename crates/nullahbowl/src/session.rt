@@ -18,7 +18,7 @@ pub struct Session {
     own: bool,
 }
 
-// Why a line was not taken.
+// Why a line was not taken; nothing has changed then.
 pub type TakeError = Failure<Fault>;
 
 impl Session {

@@ -62,7 +62,7 @@ impl From<Pair> for [u16; 5] {
     }
 }
 
-// The letters of a pair, where both are below 256.
+// The letters of a pair, where both are below 256. Two numbers, as they lie in a pair.
 pub(crate) fn known_letters(first: u16, second: u16) -> Option<(u8, u8)>
     ensures { result ≡ known_letters first second }
 {

@@ -1,6 +1,6 @@
 // Tables of weights, checked and looked up.
 //
-// A `Table` is a view of lent numbers that have passed `Table::check` (view); a `TableBuf` owns such numbers, is filled
+// A `Table` is a view of lent numbers that pass `Table::check` (view); a `TableBuf` owns such numbers, is filled
 // letter by letter and pair by pair, and lends a `Table` (buffer). Both read and write numbers by one layout and look
 // pairs up along chains. What is turned away is a `Refusal` (fault). The valley's own table is built in (valley), and
 // `table_laws` carries what is promised of every table (laws).

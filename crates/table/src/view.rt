@@ -1,4 +1,4 @@
-// A table as a view of lent numbers that have been checked.
+// A table as a view of lent numbers that pass the check.
 ghost use Rattle.std.specs.Prelude.{◌≡◌, ◌*◌, length};
 
 use crate::pairs::Pairs;

@@ -28,6 +28,7 @@ impl<'a> Pairs<'a> {
         ensures { AllChained self.old.numbers.now result self.new }
     {
         for (place, pair) in self.numbers.chunks_exact(5).enumerate() {
+            // All letters were looked through before, so that the casts lose nothing.
             let first = pair[0] as u8;
             let second = pair[1] as u8;
             if self.locate(first, second).is_some() {

@@ -26,7 +26,7 @@ impl Pairs<'_> {
         Some(read_pair(self.numbers, place))
     }
 
-    // What two letters weigh together, where they are a pair.
+    // What two letters weigh together, where they are a pair. Two letters, as `Table::pair` takes them.
     pub(crate) fn weights(&self, first: u8, second: u8) -> Option<Weights>
         ensures { result ≡ option_map (λ k. weights_at self.now.numbers.now (5 * k + 2)) (place_in self.now.numbers.now self.now.count first second) }
     {
@@ -34,7 +34,7 @@ impl Pairs<'_> {
         Some(weights_at(self.numbers, 5 * place + 2))
     }
 
-    // The place of the pair of two letters.
+    // The place of the pair of two letters. Two letters, as `Table::pair` takes them.
     pub(crate) fn locate(&self, first: u8, second: u8) -> Option<usize>
         ensures place { result ≡ place_in self.now.numbers.now self.now.count first second }
         ensures bound { IfSome result (λ k. k < self.now.count) }

@@ -1,8 +1,7 @@
 // Checking lent numbers as a table.
-ghost use Rattle.std.specs.Prelude.{◌≡◌, ◌/◌, [], length};
-ghost use Rattle.table.specs.Meaning.{Checked, pairs_of, rules_of};
+ghost use Rattle.std.specs.Prelude.{◌≡◌, ◌/◌, length};
+ghost use Rattle.table.specs.Meaning.{Checked};
 ghost use Rattle.table.specs.Refusals.{first_place, foreign, shape_refusal, verdict};
-ghost use Rattle.table.specs.Rules.{no_rules};
 
 use crate::fault::Refusal;
 use crate::layout::known_letters;
@@ -11,8 +10,8 @@ use crate::view::Table;
 
 impl<'a> Table<'a> {
     // Lent numbers as a table: three weights for each of the 256 letters, and five numbers for each of `how_many`
-    // pairs, two letters and their three weights. They are taken one by one, and not as a struct, as `make_key` takes
-    // them, whose signature stays as it is.
+    // pairs, two letters and their three weights. They are taken one by one, and not as a struct, as `make_key` hands
+    // them on from callers who know tables by numbers alone.
     pub fn check(letters: &'a [u16], pairs: &'a [u16], how_many: u64) -> Result<Table<'a>, Refusal>
         ensures { Checked letters.now pairs.now how_many result }
     {
