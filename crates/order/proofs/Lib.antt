@@ -1,0 +1,4 @@
+pub mod Comparing
+pub mod Names
+pub mod Newer
+pub mod Rows

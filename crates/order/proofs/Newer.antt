@@ -1,0 +1,73 @@
+-- Newer tables: what the tests on old pieces say of names.
+use Rattle.std.proofs.Common.{◌≡◌, ℕ, Bool, true, eqb, List, [], ◌∷◌, map, refl, sym, ap, ap₂, ◌∙◌, arith}
+use Rattle.std.specs.List.{list_all}
+use Rattle.std.specs.Ordering.{nat_cmp}
+use Rattle.std.proofs.lemmas.Bool.Decides.{nat_tests}
+use Rattle.keys.specs.declared.level.Level.{Level}
+use Rattle.keys.specs.declared.level.Level.TheVariants.{Primary, Secondary, Tertiary}
+use Rattle.keys.specs.Pieces.{pieces}
+use Rattle.keys.specs.Rows.{row, weight, without_zeros}
+use Rattle.table.specs.Rules.{Rules}
+use Rattle.order.specs.Rows.{row_order}
+use Rattle.order.specs.Newer.{KeepsLevel, Rises, SameRuns, Scaled, old_piece}
+use Rattle.order.specs.Laws.{NewerByScales, NewerTables}
+use Rattle.order.proofs.Names.{levels}
+
+module _ (old : ℕ → Bool) (t u : Rules) where
+  -- an old name has the same pieces under both tables
+  same_pieces : SameRuns old t u → (n : List ℕ) → list_all old n ≡ true → pieces u.joins n ≡ pieces t.joins n
+  unfolding pieces
+  same_pieces s [] o = refl
+  same_pieces s (a ∷ []) o = refl
+  same_pieces s (a ∷ (b ∷ xs)) o =
+      let e = s (a ∷ (b ∷ [])) in let two = same_pieces s xs in let one = same_pieces s (b ∷ xs) in grind arith
+
+  -- and old ones
+  old_pieces : (n : List ℕ) → list_all old n ≡ true → list_all (old_piece old t) (pieces t.joins n) ≡ true
+  unfolding pieces
+  old_pieces [] o = refl
+  old_pieces (a ∷ []) o = grind arith
+  old_pieces (a ∷ (b ∷ xs)) o = let two = old_pieces xs in let one = old_pieces (b ∷ xs) in grind arith
+
+  module _ (l : Level) (k : KeepsLevel old t u l) where
+    -- the row of a level that pieces make
+    abbrev on : Rules → List (List ℕ) → List ℕ
+    on s ps = without_zeros (map (weight l s) ps)
+
+    same_order : (ps qs : List (List ℕ)) → list_all (old_piece old t) ps ≡ true → list_all (old_piece old t) qs ≡ true → row_order (on u ps) (on u qs) ≡ row_order (on t ps) (on t qs)
+    unfolding without_zeros
+    same_order [] [] o r = refl
+    same_order [] (q ∷ qs) o r = let z = k.zeros q in let ih = same_order [] qs in grind arith
+    same_order (p ∷ ps) [] o r = let z = k.zeros p in let ih = same_order ps [] in grind arith
+    same_order (p ∷ ps) (q ∷ qs) o r =
+        let y = k.zeros p in let z = k.zeros q in let c = k.order p q in
+        let both = same_order ps qs in let left = same_order ps (q ∷ qs) in let right = same_order (p ∷ ps) qs in
+        grind arith
+
+  rows_keep : SameRuns old t u → (l : Level) → KeepsLevel old t u l → (a b : List ℕ) → list_all old a ≡ true → list_all old b ≡ true → row_order (row l u a) (row l u b) ≡ row_order (row l t a) (row l t b)
+  unfolding row
+  rows_keep s l k a b oa ob =
+      rw (same_pieces s a oa, same_pieces s b ob) (same_order l k (pieces t.joins a) (pieces t.joins b) (old_pieces a oa) (old_pieces b ob))
+
+pub newer_tables : NewerTables
+newer_tables old t u k a b oa ob =
+    let one = rows_keep old t u k.runs Primary (k.levels Primary) a b oa ob in
+    let two = rows_keep old t u k.runs Secondary (k.levels Secondary) a b oa ob in
+    let three = rows_keep old t u k.runs Tertiary (k.levels Tertiary) a b oa ob in
+    levels u a b ∙ rw (one, two, three) (sym (levels t a b))
+
+module _ (f : ℕ → ℕ) (r : Rises f) where
+  same_zero : (x : ℕ) → eqb (f x) 0 ≡ eqb x 0
+  same_zero x = let a = r.0 in let b = r.1 0 x in grind (arith, nat_tests)
+
+  same_cmp : (x y : ℕ) → nat_cmp (f x) (f y) ≡ nat_cmp x y
+  same_cmp x y = let a = r.1 x y in let b = r.1 y x in grind (arith, nat_tests)
+
+scaled : (old : ℕ → Bool) (t u : Rules) (l : Level) → Scaled old t u l → KeepsLevel old t u l
+scaled old t u l (f, g, rf, rg, e) = record {
+  zeros = λ p o. sym (same_zero g rg (weight l u p)) ∙ (ap (λ x. eqb x 0) (e p o) ∙ same_zero f rf (weight l t p));
+  order = λ p q o m. sym (same_cmp g rg (weight l u p) (weight l u q)) ∙ (ap₂ nat_cmp (e p o) (e q m) ∙ same_cmp f rf (weight l t p) (weight l t q));
+}
+
+pub newer_by_scales : NewerByScales
+newer_by_scales old t u s k = newer_tables old t u (record { runs = s; levels = λ l. scaled old t u l (k l) })

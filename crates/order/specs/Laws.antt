@@ -1,0 +1,81 @@
+-- What is promised of the order, of every table.
+use Rattle.std.specs.Prelude.{Bool, List, [], length, slice_index_or, true, false, ℕ, ◌<◌, ◌≡◌, ◌≤◌, ◌⊎◌}
+use Rattle.std.specs.Cmp.{IsTotalOrder}
+use Rattle.std.specs.declared.cmp.Ordering.TheVariants.{Equal}
+use Rattle.keys.specs.Rows.{joined, key, row, rows}
+use Rattle.keys.specs.declared.level.Level.{Level}
+use Rattle.keys.specs.declared.level.Level.TheVariants.{Primary}
+use Rattle.order.specs.Names.{name_before, name_order}
+use Rattle.order.specs.Newer.{Keeps, KeepsNames, SameRuns, Scaled}
+use Rattle.order.specs.Rows.{FreeButLast, before, begins, by_levels, row_order}
+use Rattle.table.specs.Rules.{Rules}
+
+-- ---- rows, as many on both sides, of which all but the last are free of zeros
+
+-- joined, with a 0 between each and the next, they are in the order by levels
+abbrev pub JoinedByLevels : Type 0
+JoinedByLevels = (rs ss : List (List ℕ)) → length rs ≡ length ss → FreeButLast rs → FreeButLast ss → row_order (joined rs) (joined ss) ≡ by_levels rs ss
+
+-- from what they are joined to they are read back
+abbrev pub JoinedReadsBack : Type 0
+JoinedReadsBack = (rs ss : List (List ℕ)) → length rs ≡ length ss → FreeButLast rs → FreeButLast ss → joined rs ≡ joined ss → rs ≡ ss
+
+-- rows that are in no order are the same
+abbrev pub AlikeAreSame : Type 0
+AlikeAreSame = (xs ys : List ℕ) → row_order xs ys ≡ Equal → xs ≡ ys
+
+-- a row between two that begin with the one asked for begins with it too
+abbrev pub Between : Type 0
+Between =
+    (asked x y z : List ℕ) → before y x ≡ false → before z y ≡ false →
+    begins x asked ≡ true → begins z asked ≡ true → begins y asked ≡ true
+
+pub record RowLaws : Type 0 where
+  pub joined_by_levels : JoinedByLevels
+  pub joined_reads_back : JoinedReadsBack
+  pub total : IsTotalOrder row_order
+  pub alike_are_same : AlikeAreSame
+  pub between : Between
+
+-- ---- names, under every table
+
+-- comparing keys number by number says the order by levels
+abbrev pub Levels : Type 0
+Levels = (t : Rules) (a b : List ℕ) → name_order t a b ≡ by_levels (rows t a) (rows t b)
+
+-- Of two names one is before the other, or their keys are the same; it goes through a third, and not back.
+pub record AnOrder : Type 0 where
+  pub one_of_three : (t : Rules) (a b : List ℕ) → (name_before t a b ≡ true) ⊎ ((name_before t b a ≡ true) ⊎ (key t a ≡ key t b))
+  pub through : (t : Rules) (a b c : List ℕ) → name_before t a b ≡ true → name_before t b c ≡ true → name_before t a c ≡ true
+  pub not_back : (t : Rules) (a b : List ℕ) → name_before t a b ≡ true → name_before t b a ≡ false
+
+-- a list in order: of any two names the later is not before the earlier
+abbrev pub InOrder : Rules → List (List ℕ) → Type 0
+InOrder t ns = (i j : ℕ) → i < j → j < length ns → name_before t (slice_index_or ns j []) (slice_index_or ns i []) ≡ false
+
+-- in a list in order, names whose first rows begin with the one asked for stand together
+abbrev pub Together : Type 0
+Together =
+    (t : Rules) (ns : List (List ℕ)) (asked : List ℕ) (i j k : ℕ) → InOrder t ns → i ≤ j → j ≤ k → k < length ns →
+    begins (row Primary t (slice_index_or ns i [])) asked ≡ true → begins (row Primary t (slice_index_or ns k [])) asked ≡ true →
+    begins (row Primary t (slice_index_or ns j [])) asked ≡ true
+
+-- from a key its rows are read in one way, whatever the two tables
+abbrev pub ReadBack : Type 0
+ReadBack = (t u : Rules) (a b : List ℕ) → key t a ≡ key u b → rows t a ≡ rows u b
+
+-- where a newer table keeps what the older says of old letters, names in old letters stand to each other as before
+abbrev pub NewerTables : Type 0
+NewerTables = (old : ℕ → Bool) (t u : Rules) → Keeps old t u → KeepsNames old t u
+
+-- the same where the weights of both tables rise onto a common scale, level by level
+abbrev pub NewerByScales : Type 0
+NewerByScales = (old : ℕ → Bool) (t u : Rules) → SameRuns old t u → ((l : Level) → Scaled old t u l) → KeepsNames old t u
+
+pub record OrderLaws : Type 0 where
+  pub levels : Levels
+  pub order : AnOrder
+  pub together : Together
+  pub read_back : ReadBack
+  pub newer_tables : NewerTables
+  pub newer_by_scales : NewerByScales

@@ -1,0 +1,38 @@
+-- What a newer table has to leave as it was, so that old names keep their order.
+use Rattle.std.specs.Prelude.{Bool, List, length, ℕ, true, ◌&&◌, ◌<◌, ◌==◌, ◌||◌, ◌≡◌}
+use Rattle.std.specs.List.{list_all}
+use Rattle.std.specs.Ordering.{nat_cmp}
+use Rattle.keys.specs.Rows.{weight}
+use Rattle.keys.specs.declared.level.Level.{Level}
+use Rattle.order.specs.Names.{name_order}
+use Rattle.table.specs.Rules.{Rules}
+
+-- an old piece: one old letter, or old letters that are one together
+abbrev pub old_piece : (old : ℕ → Bool) → Rules → List ℕ → Bool
+old_piece old t p = list_all old p && (length p == 1 || t.joins p)
+
+-- On a level, of all old pieces: what weighed 0 does, and nothing else does; and any two stand to each other as before.
+pub record KeepsLevel (old : ℕ → Bool) (t u : Rules) (l : Level) : Type 0 where
+  pub zeros : (p : List ℕ) → old_piece old t p ≡ true → (weight l u p == 0) ≡ (weight l t p == 0)
+  pub order : (p q : List ℕ) → old_piece old t p ≡ true → old_piece old t q ≡ true → nat_cmp (weight l u p) (weight l u q) ≡ nat_cmp (weight l t p) (weight l t q)
+
+-- the same runs of old letters are one together
+abbrev pub SameRuns : (old : ℕ → Bool) → Rules → Rules → Type 0
+SameRuns old t u = (run : List ℕ) → list_all old run ≡ true → u.joins run ≡ t.joins run
+
+-- the tests: the newer table u keeps what the older table t says of old letters
+pub record Keeps (old : ℕ → Bool) (t u : Rules) : Type 0 where
+  pub runs : SameRuns old t u
+  pub levels : (l : Level) → KeepsLevel old t u l
+
+-- any two names in old letters stand to each other as before
+abbrev pub KeepsNames : (old : ℕ → Bool) → Rules → Rules → Type 0
+KeepsNames old t u = (a b : List ℕ) → list_all old a ≡ true → list_all old b ≡ true → name_order u a b ≡ name_order t a b
+
+-- a map that keeps the order of numbers, and 0
+abbrev pub Rises : (ℕ → ℕ) → Type 0
+Rises f = (f 0 ≡ 0) × ((x y : ℕ) → x < y → f x < f y)
+
+-- a common scale: two such maps take what an old piece weighs on a level in either table to the same number
+abbrev pub Scaled : (old : ℕ → Bool) → Rules → Rules → Level → Type 0
+Scaled old t u l = (f g : ℕ → ℕ) × Rises f × Rises g × ((p : List ℕ) → old_piece old t p ≡ true → g (weight l u p) ≡ f (weight l t p))
