@@ -12,6 +12,9 @@ pub enum Level {
 }
 
 impl Level {
+    // All of them, in the order in which they count.
+    pub const ALL: [Level; 3] = [Level::Primary, Level::Secondary, Level::Tertiary];
+
     // The weight of this level.
     pub fn weight(self, weights: Weights) -> u16
         ensures { result ≡ on self weights }

@@ -1,4 +1,5 @@
 pub mod Comparing
 pub mod Names
-pub mod Newer
+pub mod Deciding
+pub mod Keeping
 pub mod Rows

@@ -7,9 +7,13 @@ use Rattle.keys.specs.declared.level.Level.{Level}
 use Rattle.order.specs.Names.{name_order}
 use Rattle.table.specs.Rules.{Rules}
 
--- an old piece: one old letter, or old letters that are one together
+-- a piece: one letter, or letters that are one together
+abbrev pub is_piece : Rules → List ℕ → Bool
+is_piece t run = length run == 1 || t.joins run
+
+-- an old piece: a piece of old letters
 abbrev pub old_piece : (old : ℕ → Bool) → Rules → List ℕ → Bool
-old_piece old t p = list_all old p && (length p == 1 || t.joins p)
+old_piece old t run = list_all old run && is_piece t run
 
 -- On a level, of all old pieces: what weighed 0 does, and nothing else does; and any two stand to each other as before.
 pub record KeepsLevel (old : ℕ → Bool) (t u : Rules) (l : Level) : Type 0 where

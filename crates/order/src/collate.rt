@@ -42,7 +42,7 @@ impl Collate for Table<'_> {
 
     #[tactic(auto, using(crate::proofs::Names::levels))]
     fn compare(&self, a: &[u8], b: &[u8]) -> Ordering {
-        for level in [Level::Primary, Level::Secondary, Level::Tertiary] {
+        for level in Level::ALL {
             let order = compare_rows(self, level, a, b);
             if order.is_ne() {
                 return order;

@@ -3,6 +3,10 @@
 
 mod collate;
 mod laws;
+mod newer;
+mod piece;
 
 pub use collate::{Collate, Standing};
 pub use laws::{order_laws, row_laws};
+pub use newer::{Change, keeps_order};
+pub use piece::Piece;

@@ -1,15 +1,21 @@
 -- The laws of tables.
-use Rattle.std.proofs.Common.{◌≡◌, ℕ, zero, suc, ◌<◌, Bool, true, false, List, [], ◌∷◌, is_some, Some, None, sym, refl, ap, ◌∙◌, ap₂, ⊎_elim, arith}
-use Rattle.std.proofs.lemmas.Bool.{or_from, le-ltb, cases_Bool, cases_order, true≢false}
+use Rattle.std.proofs.Common.{◌≡◌, ℕ, zero, suc, ◌<◌, Bool, true, false, List, [], ◌∷◌, length, is_some, Some, None, sym, refl, ap, ◌∙◌, ap₂, ⊎_elim, arith}
+use Rattle.std.proofs.lemmas.Bool.{or_from, le-ltb, cases_Bool, cases_lt, cases_order, true≢false}
+use Rattle.std.proofs.lemmas.Option.{none-some, same_Some}
 use Rattle.std.proofs.lemmas.Bool.Decides.{nat_tests}
+use Rattle.std.proofs.lemmas.List.FromFn.{length-map-range_with_len}
+use Rattle.std.specs.List.{slice_get}
 use Rattle.table.specs.declared.fault.Refusal.TheVariants.{Foreign, Twice}
+use Rattle.table.specs.declared.piece.Pair.{Pair}
+use Rattle.table.specs.declared.view.Table.{Table}
 use Rattle.table.specs.Laws.{SamePair, KnownPair, IsTable, ExactlyTables, FirstForeign, FirstTwice, JustPairs, SameRefusal}
-use Rattle.table.specs.Numbers.{first_at, second_at, place_in}
+use Rattle.table.specs.Meaning.{pairs_of, rules_of}
+use Rattle.table.specs.Numbers.{first_at, second_at, pair_at, place_in}
 use Rattle.table.specs.Refusals.{first_place, foreign, repeated, refusal_of}
 use Rattle.table.specs.Rules.{joins_in, weighs_in, weights_of}
 use Rattle.table.proofs.Firsts.{none_at, none_below}
 use Rattle.table.proofs.Growing.{refusal_more}
-use Rattle.table.proofs.Places.{place_below, first_known, second_known}
+use Rattle.table.proofs.Places.{place_below, first_known, nth_none, nth_pair, second_known}
 use Rattle.table.proofs.Refusing.{sound, no_refusal, some_or_none, by_refusal}
 
 -- where a pair is, and where it is not
@@ -141,3 +147,26 @@ just_pairs ls ps n t = (
 
 pub same_refusal : SameRefusal
 same_refusal ls ps n p e = let s = sound ls ps n e in refusal_more ps n p s.fives ls s.whole s.known s.apart
+
+-- letters that are one under a table stand in its list of pairs
+pub listed : (t : Table) (run : List ℕ) → (rules_of t).joins run ≡ true → (k : ℕ) × (p : Pair) × (k < length (pairs_of t)) × (slice_get (pairs_of t) k ≡ Some p) × (run ≡ p.first ∷ (p.second ∷ []))
+listed t run e =
+    let ps = t.pairs.numbers.now in
+    let n = t.pairs.count in
+    let q = one_of_pairs ps n run e in
+    let m = length-map-range_with_len (pair_at ps) 0 n in
+    (q.0, pair_at ps q.0, omega (arith, q.1), nth_pair ps n q.0 q.1, q.2)
+
+-- and those that stand there are one
+pub listed_joins : (t : Table) (k : ℕ) (p : Pair) → slice_get (pairs_of t) k ≡ Some p → (rules_of t).joins (p.first ∷ (p.second ∷ [])) ≡ true
+unfolding joins_in
+listed_joins t k p e =
+    let ps = t.pairs.numbers.now in
+    let n = t.pairs.count in
+    ⊎_elim
+    (λ l.
+    let q = same_Some (pair_at ps k) p (sym (nth_pair ps n k l) ∙ e) in
+    ap (λ x. joins_in ps n (x.first ∷ (x.second ∷ []))) (sym q)
+    ∙ ⊎_elim (λ h. h) (λ h. absurd (place_not ps n (first_at ps k) (second_at ps k) h k l refl refl)) (cases_Bool (is_some (place_in ps n (first_at ps k) (second_at ps k)))))
+    (λ l. absurd (none-some p (sym (nth_none ps n k l) ∙ e)))
+    (cases_lt k n)

@@ -1,5 +1,5 @@
 // Looking up what letters weigh.
-ghost use Rattle.std.specs.Prelude.{◌≡◌, [], ◌∷◌, length};
+ghost use Rattle.std.specs.Prelude.{◌≡◌, ◌≤◌, [], ◌∷◌, length};
 ghost use Rattle.std.specs.List.{slice_get};
 ghost use Rattle.table.specs.Meaning.{pairs_of, rules_of};
 ghost use Rattle.table.specs.Rules.{contraction};
@@ -34,7 +34,8 @@ impl Table<'_> {
 
     // How many pairs there are.
     pub fn pair_count(&self) -> usize
-        ensures { result ≡ length (pairs_of self.now) }
+        ensures count { result ≡ length (pairs_of self.now) }
+        ensures few { result ≤ 200 }
     {
         self.pairs.len()
     }

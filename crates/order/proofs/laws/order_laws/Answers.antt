@@ -1,5 +1,5 @@
 use Rattle.order.proofs.Names.{an_order, levels, read_back, together}
-use Rattle.order.proofs.Newer.{newer_by_scales, newer_tables}
+use Rattle.order.proofs.Keeping.{newer_by_scales, newer_tables}
 use Rattle.order.proofs.laws.order_laws.Goals as goal
 
 pub returns : goal.returns

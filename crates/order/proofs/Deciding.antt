@@ -1,0 +1,183 @@
+-- Deciding whether a newer table keeps old names in their order.
+use Rattle.std.proofs.Common.{◌≡◌, ℕ, ◌+◌, ◌-◌, ◌<◌, ◌≤◌, Bool, true, false, ◌&&◌, ◌||◌, ◌==◌, List, [], ◌∷◌, length, Some, None, Ok, Err, Option, sym, refl, ap, ap₂, ◌∙◌, subst, ◌⊎◌, inl, inr, ⊎_elim, arith}
+use Rattle.std.specs.Cmp.{both_ways}
+use Rattle.std.specs.List.{list_all, slice_get}
+use Rattle.table.specs.declared.piece.Pair as table_pair
+use Rattle.std.specs.Ordering.{nat_cmp}
+use Rattle.std.proofs.lemmas.Bool.{cases_lt}
+use Rattle.std.proofs.lemmas.Bool.Decides.{nat_tests}
+use Rattle.std.proofs.lemmas.Option.{cond_some, none-some, same_Some, slice_get_cases}
+use Rattle.keys.specs.declared.level.Level.{Level}
+use Rattle.keys.specs.Rows.{on, weight}
+use Rattle.table.specs.Meaning.{pairs_of, rules_of}
+use Rattle.table.specs.Rules.{Rules}
+use Rattle.table.specs.declared.view.Table.{Table}
+use Rattle.table.proofs.Lawful.{listed, listed_joins}
+use Rattle.order.specs.Changes.{Changed, Decided, SameOrder, SameZero, Tested, WeighedIn}
+use Rattle.order.proofs.Keeping.{newer_tables}
+use Rattle.order.specs.Newer.{Keeps, is_piece, old_piece}
+use Rattle.order.specs.Pieces.{NextPiece, NoneBetween, letters_of, old_at, old_in, places, run_at}
+use Rattle.order.specs.declared.newer.Change.{Change}
+use Rattle.order.specs.declared.newer.Change.TheVariants.{Together, Counts, Order}
+use Rattle.order.specs.declared.newer.Weighed.{Weighed}
+use Rattle.order.specs.declared.piece.OldPieces.{OldPieces}
+use Rattle.order.specs.declared.piece.Piece.{Piece}
+
+-- two letters are one only where they are two
+joined_two : (t : Table) (run : List ℕ) → (rules_of t).joins run ≡ true → length run ≡ 2
+joined_two t run e = let q = listed t run e in ap length q.4
+
+module _ (s : OldPieces) where
+  abbrev old : ℕ → Bool
+  old = old_in s.old.now
+
+  abbrev rules : Rules
+  rules = rules_of s.table.now
+
+  -- each old piece stands at some place
+  at_letter : (a : ℕ) → list_all old (a ∷ []) ≡ true → (j : ℕ) × (j < places s.table.now) × (old_at s j ≡ Some (a ∷ []))
+  at_letter a o = (a, grind (arith, nat_tests), grind (arith, nat_tests))
+
+  at_run : (run : List ℕ) → list_all old run ≡ true → rules.joins run ≡ true → (j : ℕ) × (j < places s.table.now) × (old_at s j ≡ Some run)
+  at_run run o e =
+      let q = listed s.table.now run e in
+      (256 + q.0, omega (arith, q.2), let g = q.3 in let r = q.4 in grind (arith, nat_tests))
+
+  complete : (run : List ℕ) → old_piece old rules run ≡ true → (j : ℕ) × (j < places s.table.now) × (old_at s j ≡ Some run)
+  complete [] o = at_run [] (grind arith) (grind arith)
+  complete (a ∷ []) o = at_letter a (grind arith)
+  complete (a ∷ (b ∷ run)) o = at_run (a ∷ (b ∷ run)) (grind arith) (grind (arith, nat_tests))
+
+  -- and what stands at one is an old piece
+  piece_at : (j : ℕ) → j < places s.table.now → is_piece rules (run_at s.table.now j) ≡ true
+  piece_at j l = ⊎_elim (λ h. grind (arith, nat_tests)) (λ h. go (slice_get (pairs_of s.table.now) (j - 256)) refl h) (cases_lt j 256)
+    where
+      go : (o : Option table_pair.Pair) → slice_get (pairs_of s.table.now) (j - 256) ≡ o → 256 ≤ j → is_piece rules (run_at s.table.now j) ≡ true
+      go None e h =
+          absurd (⊎_elim (λ q. none-some q.0 (sym e ∙ q.2)) (λ q. omega (arith, l, h, q.0)) (slice_get_cases (pairs_of s.table.now) (j - 256)).1)
+      go (Some p) e h = let q = listed_joins s.table.now (j - 256) p e in grind (arith, nat_tests)
+
+  sound : (j : ℕ) (q : List ℕ) → j < places s.table.now → old_at s j ≡ Some q → old_piece old rules q ≡ true
+  sound j q l e =
+      let d = cond_some (list_all old (run_at s.table.now j)) (run_at s.table.now j) q e in
+      subst (λ r. old_piece old rules r ≡ true) d.1 (ap₂ (λ a b. a && b) d.0 (piece_at j l))
+
+  -- of each old piece that was met so far
+  abbrev pub Seen : (List ℕ → Type 0) → Type 0
+  Seen P = (j : ℕ) (q : List ℕ) → j < s.place → old_at s j ≡ Some q → P q
+
+-- one more is met
+pub seen_more : (P : List ℕ → Type 0) (s : OldPieces) (p : Piece) (t : OldPieces) → NextPiece s (Some p) t → Seen s P → P (letters_of p) → Seen t P
+seen_more P s p t n h g j q l e =
+    let from : old_at s j ≡ Some q = ap₂ (λ b o. old_at (record { table = b; old = o; place = 0 }) j) (sym n.0) (sym n.1) ∙ e in
+    ⊎_elim
+    (λ b. h j q b from)
+    (λ b.
+      ⊎_elim
+      (λ k. absurd (none-some q (sym (n.2.3 j b k) ∙ from)))
+      (λ k. let i : j ≡ n.2.0 = omega (arith, l, k, n.2.5) in subst P (same_Some _ _ (sym n.2.4 ∙ (ap (old_at s) (sym i) ∙ from))) g)
+      (cases_lt j n.2.0))
+    (cases_lt j s.place)
+
+-- all are
+pub seen_all : (P : List ℕ → Type 0) (s : OldPieces) → NoneBetween s s.place (places s.table.now) → Seen s P → (b : Table) → s.table.now ≡ b → (m : List Bool) → s.old.now ≡ m
+    → (run : List ℕ) → old_piece (old_in m) (rules_of b) run ≡ true → P run
+seen_all P s n h b eb m em run o =
+    let c = complete s run (ap₂ (λ m b. old_piece (old_in m) (rules_of b) run) em eb ∙ o) in
+    ⊎_elim (λ b. h c.0 run b c.2) (λ b. absurd (none-some run (sym (n c.0 b c.1) ∙ c.2))) (cases_lt c.0 s.place)
+
+-- what is met is an old piece
+pub met : (s : OldPieces) (p : Piece) (t : OldPieces) → NextPiece s (Some p) t → (b : Table) → s.table.now ≡ b → (m : List Bool) → s.old.now ≡ m
+    → old_piece (old_in m) (rules_of b) (letters_of p) ≡ true
+met s p t n b eb m em = ap₂ (λ m b. old_piece (old_in m) (rules_of b) (letters_of p)) (sym em) (sym eb) ∙ sound s n.2.0 (letters_of p) n.2.2 n.2.4
+
+module _ (marks : List Bool) (t u : Rules) where
+  -- a piece stands to another in both tables as it was weighed
+  abbrev pub StandsTo : Weighed → List ℕ → Type 0
+  StandsTo w r = (l : Level) → nat_cmp (on l w.newer) (weight l u r) ≡ nat_cmp (on l w.older) (weight l t r)
+
+  -- an old piece of the older table is one in the newer, and keeps what it is there
+  abbrev pub Kept : List ℕ → Type 0
+  Kept q =
+      (is_piece u q ≡ true)
+      × ((l : Level) → (weight l u q == 0) ≡ (weight l t q == 0))
+      × ((r : List ℕ) → old_piece (old_in marks) t r ≡ true → (l : Level) → nat_cmp (weight l u q) (weight l u r) ≡ nat_cmp (weight l t q) (weight l t r))
+
+  -- what was weighed
+  module _ (p : Piece) (w : Weighed) (g : WeighedIn t u p (Ok w)) where
+    older_is : (is_piece t (letters_of p) ≡ true) × (t.weighs (letters_of p) ≡ w.older)
+    older_is = cond_some (is_piece t (letters_of p)) (t.weighs (letters_of p)) w.older g.1
+
+    newer_is : (is_piece u (letters_of p) ≡ true) × (u.weighs (letters_of p) ≡ w.newer)
+    newer_is = cond_some (is_piece u (letters_of p)) (u.weighs (letters_of p)) w.newer g.2
+
+  -- a change that is one speaks against the tests
+  refuted : (c : Change) → Changed (old_in marks) t u c → Keeps (old_in marks) t u → ⊥
+  refuted (Together p) h k = h.1 (k.runs (letters_of p) h.0)
+  refuted (Counts p l) h k = h.1 ((k.levels l).zeros (letters_of p) h.0)
+  refuted (Order p q l) h k = h.2 ((k.levels l).order (letters_of p) (letters_of q) h.0 h.1)
+
+  told : (c : Change) → Changed (old_in marks) t u c → Decided (old_in marks) t u (Err c)
+  told c h = (h, refuted c h)
+
+  all_old : (run : List ℕ) (b : Rules) → old_piece (old_in marks) b run ≡ true → list_all (old_in marks) run ≡ true
+  all_old run b o = grind arith
+
+  a_piece : (run : List ℕ) (b : Rules) → old_piece (old_in marks) b run ≡ true → is_piece b run ≡ true
+  a_piece run b o = grind arith
+
+  -- letters that are a piece in only one of the tables are one in only one
+  parted : (one j k : Bool) → (one || j) && (one || k) ≡ false → ((one || j ≡ true) ⊎ (one || k ≡ true)) → k ≡ j → ⊥
+  parted one j k e f g = grind arith
+
+  only_one : (p : Piece) (c : Change) → list_all (old_in marks) (letters_of p) ≡ true → ((is_piece t (letters_of p) ≡ true) ⊎ (is_piece u (letters_of p) ≡ true))
+      → WeighedIn t u p (Err c) → Decided (old_in marks) t u (Err c)
+  only_one p c o f g =
+      let run = letters_of p in
+      subst (λ c. Decided (old_in marks) t u (Err c)) (sym g.0) (told (Together p) (o, parted (length run == 1) (t.joins run) (u.joins run) g.1 f))
+
+  pub in_older_only : (p : Piece) (c : Change) → old_piece (old_in marks) t (letters_of p) ≡ true → WeighedIn t u p (Err c) → Decided (old_in marks) t u (Err c)
+  in_older_only p c o g = only_one p c (all_old (letters_of p) t o) (inl (a_piece (letters_of p) t o)) g
+
+  pub in_newer_only : (p : Piece) (c : Change) → old_piece (old_in marks) u (letters_of p) ≡ true → WeighedIn t u p (Err c) → Decided (old_in marks) t u (Err c)
+  in_newer_only p c o g = only_one p c (all_old (letters_of p) u o) (inr (a_piece (letters_of p) u o)) g
+
+  pub zero_changed : (p : Piece) (w : Weighed) (c : Change) → old_piece (old_in marks) t (letters_of p) ≡ true → WeighedIn t u p (Ok w) → Tested (SameZero w) (Counts w.piece) (Err c)
+      → Decided (old_in marks) t u (Err c)
+  zero_changed p w c o g (l, is, not) =
+      subst (λ c. Decided (old_in marks) t u (Err c)) (sym (is ∙ ap (λ x. Counts x l) g.0))
+        (told (Counts p l) (o, λ f. not (ap (λ x. on l x == 0) (sym (newer_is p w g).1) ∙ (f ∙ ap (λ x. on l x == 0) (older_is p w g).1))))
+
+  pub order_changed : (p q : Piece) (v w : Weighed) (c : Change) → old_piece (old_in marks) t (letters_of p) ≡ true → old_piece (old_in marks) t (letters_of q) ≡ true
+      → WeighedIn t u p (Ok v) → WeighedIn t u q (Ok w) → Tested (SameOrder v w) (Order v.piece w.piece) (Err c) → Decided (old_in marks) t u (Err c)
+  order_changed p q v w c o r g h (l, is, not) =
+      subst (λ c. Decided (old_in marks) t u (Err c)) (sym (is ∙ ap₂ (λ x y. Order x y l) g.0 h.0))
+        (told (Order p q l) (o, r, λ f. not (
+          ap₂ (λ x y. nat_cmp (on l x) (on l y)) (sym (newer_is p v g).1) (sym (newer_is q w h).1)
+          ∙ (f ∙ ap₂ (λ x y. nat_cmp (on l x) (on l y)) (older_is p v g).1 (older_is q w h).1)
+        )))
+
+  pub stands : (q : Piece) (v w : Weighed) → WeighedIn t u q (Ok w) → Tested (SameOrder v w) (Order v.piece w.piece) (Ok tt) → StandsTo v (letters_of q)
+  stands q v w h e l = ap (λ x. nat_cmp (on l v.newer) (on l x)) (newer_is q w h).1 ∙ (e l ∙ ap (λ x. nat_cmp (on l v.older) (on l x)) (sym (older_is q w h).1))
+
+  pub kept : (p : Piece) (w : Weighed) → WeighedIn t u p (Ok w) → Tested (SameZero w) (Counts w.piece) (Ok tt)
+      → ((r : List ℕ) → old_piece (old_in marks) t r ≡ true → StandsTo w r) → Kept (letters_of p)
+  kept p w g z s = (
+    (newer_is p w g).0,
+    (λ l. ap (λ x. on l x == 0) (newer_is p w g).1 ∙ (z l ∙ ap (λ x. on l x == 0) (sym (older_is p w g).1))),
+    λ r o l. ap (λ x. nat_cmp (on l x) (weight l u r)) (newer_is p w g).1 ∙ (s r o l ∙ ap (λ x. nat_cmp (on l x) (weight l t r)) (sym (older_is p w g).1)),
+  )
+
+module _ (marks : List Bool) (older newer : Table) where
+  -- what is one in a table is one in the other
+  joined_too : (one other : Table) → ((run : List ℕ) → old_piece (old_in marks) (rules_of one) run ≡ true → is_piece (rules_of other) run ≡ true)
+      → (run : List ℕ) → list_all (old_in marks) run ≡ true → (rules_of one).joins run ≡ true → (rules_of other).joins run ≡ true
+  joined_too one other h run o e = let two = joined_two one run e in let k = h run in grind (arith, nat_tests)
+
+  pub all_kept : ((run : List ℕ) → old_piece (old_in marks) (rules_of newer) run ≡ true → is_piece (rules_of older) run ≡ true)
+      → ((run : List ℕ) → old_piece (old_in marks) (rules_of older) run ≡ true → Kept marks (rules_of older) (rules_of newer) run)
+      → Decided (old_in marks) (rules_of older) (rules_of newer) (Ok tt)
+  all_kept a b = let k : Keeps (old_in marks) (rules_of older) (rules_of newer) = record {
+      runs = λ run o. both_ways ((rules_of newer).joins run) ((rules_of older).joins run) (joined_too newer older a run o) (joined_too older newer (λ r p. (b r p).0) run o);
+      levels = λ l. record { zeros = λ p o. (b p o).1 l; order = λ p q o r. (b p o).2 q r l };
+    } in (k, newer_tables (old_in marks) (rules_of older) (rules_of newer) k)

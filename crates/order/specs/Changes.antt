@@ -1,0 +1,48 @@
+-- What stands otherwise under a newer table.
+use Rattle.std.specs.Prelude.{Bool, ℕ, true, false, Some, Ok, Err, Result, ◌&&◌, ◌==◌, ◌≡◌}
+use Rattle.std.specs.List.{list_all}
+use Rattle.std.specs.Ordering.{nat_cmp}
+use Rattle.keys.specs.Rows.{on, weight}
+use Rattle.keys.specs.declared.level.Level.{Level}
+use Rattle.order.specs.Newer.{Keeps, KeepsNames, is_piece, old_piece}
+use Rattle.order.specs.Pieces.{letters_of, piece_weights}
+use Rattle.order.specs.declared.newer.Change.{Change}
+use Rattle.order.specs.declared.newer.Change.TheVariants.{Together, Counts, Order}
+use Rattle.order.specs.declared.newer.Weighed.{Weighed}
+use Rattle.order.specs.declared.piece.Piece.{Piece}
+use Rattle.table.specs.Rules.{Rules}
+
+-- A change is what it says it is: old letters that are one together in only one of the tables; an old piece that weighs 0 on
+-- the level in only one of them; two old pieces that do not stand to each other on the level as before.
+abbrev pub Changed : (old : ℕ → Bool) → Rules → Rules → Change → Type 0
+Changed old t u (Together p) = (list_all old (letters_of p) ≡ true) × (u.joins (letters_of p) ≡ t.joins (letters_of p) → ⊥)
+Changed old t u (Counts p l) =
+    (old_piece old t (letters_of p) ≡ true)
+    × ((weight l u (letters_of p) == 0) ≡ (weight l t (letters_of p) == 0) → ⊥)
+Changed old t u (Order p q l) =
+    (old_piece old t (letters_of p) ≡ true) × (old_piece old t (letters_of q) ≡ true)
+    × (nat_cmp (weight l u (letters_of p)) (weight l u (letters_of q)) ≡ nat_cmp (weight l t (letters_of p)) (weight l t (letters_of q)) → ⊥)
+
+-- The newer table keeps what the older says of old letters, and so names of old letters stand to each other as before; or it
+-- doesn't, and something has changed.
+abbrev pub Decided : (old : ℕ → Bool) → Rules → Rules → Result Unit Change → Type 0
+Decided old t u (Ok x) = Keeps old t u × KeepsNames old t u
+Decided old t u (Err c) = Changed old t u c × (Keeps old t u → ⊥)
+
+-- what a piece weighs under both tables, or that it is a piece in one of them only
+abbrev pub WeighedIn : Rules → Rules → Piece → Result Weighed Change → Type 0
+WeighedIn t u p (Ok w) = (w.piece ≡ p) × (piece_weights t (letters_of p) ≡ Some w.older) × (piece_weights u (letters_of p) ≡ Some w.newer)
+WeighedIn t u p (Err c) = (c ≡ Together p) × (is_piece t (letters_of p) && is_piece u (letters_of p) ≡ false)
+
+-- it counts on the level under both tables, or under none
+abbrev pub SameZero : Weighed → Level → Type 0
+SameZero w l = (on l w.newer == 0) ≡ (on l w.older == 0)
+
+-- two stand to each other on the level as before
+abbrev pub SameOrder : Weighed → Weighed → Level → Type 0
+SameOrder v w l = nat_cmp (on l v.newer) (on l w.newer) ≡ nat_cmp (on l v.older) (on l w.older)
+
+-- the same on every level, or on which not
+abbrev pub Tested : (Level → Type 0) → (Level → Change) → Result Unit Change → Type 0
+Tested P change (Ok x) = (l : Level) → P l
+Tested P change (Err c) = (l : Level) × (c ≡ change l) × (P l → ⊥)
