@@ -96,12 +96,13 @@ module _ (marks : List Bool) (t u : Rules) where
   abbrev pub StandsTo : Weighed → List ℕ → Type 0
   StandsTo w r = (l : Level) → nat_cmp (on l w.newer) (weight l u r) ≡ nat_cmp (on l w.older) (weight l t r)
 
-  -- an old piece of the older table is one in the newer, and keeps what it is there
-  abbrev pub Kept : List ℕ → Type 0
-  Kept q =
-      (is_piece u q ≡ true)
-      × ((l : Level) → (weight l u q == 0) ≡ (weight l t q == 0))
-      × ((r : List ℕ) → old_piece (old_in marks) t r ≡ true → (l : Level) → nat_cmp (weight l u q) (weight l u r) ≡ nat_cmp (weight l t q) (weight l t r))
+  -- an old piece of the older table is one in the newer, and weighs 0 where it did
+  abbrev pub Counted : List ℕ → Type 0
+  Counted q = (is_piece u q ≡ true) × ((l : Level) → (weight l u q == 0) ≡ (weight l t q == 0))
+
+  -- it stands to each other one as before
+  abbrev pub Placed : List ℕ → Type 0
+  Placed q = (r : List ℕ) → old_piece (old_in marks) t r ≡ true → (l : Level) → nat_cmp (weight l u q) (weight l u r) ≡ nat_cmp (weight l t q) (weight l t r)
 
   -- what was weighed
   module _ (p : Piece) (w : Weighed) (g : WeighedIn t u p (Ok w)) where
@@ -160,13 +161,15 @@ module _ (marks : List Bool) (t u : Rules) where
   pub stands : (q : Piece) (v w : Weighed) → WeighedIn t u q (Ok w) → Tested (SameOrder v w) (Order v.piece w.piece) (Ok tt) → StandsTo v (letters_of q)
   stands q v w h e l = ap (λ x. nat_cmp (on l v.newer) (on l x)) (newer_is q w h).1 ∙ (e l ∙ ap (λ x. nat_cmp (on l v.older) (on l x)) (sym (older_is q w h).1))
 
-  pub kept : (p : Piece) (w : Weighed) → WeighedIn t u p (Ok w) → Tested (SameZero w) (Counts w.piece) (Ok tt)
-      → ((r : List ℕ) → old_piece (old_in marks) t r ≡ true → StandsTo w r) → Kept (letters_of p)
-  kept p w g z s = (
+  pub counted : (p : Piece) (w : Weighed) → WeighedIn t u p (Ok w) → Tested (SameZero w) (Counts w.piece) (Ok tt) → Counted (letters_of p)
+  counted p w g z = (
     (newer_is p w g).0,
-    (λ l. ap (λ x. on l x == 0) (newer_is p w g).1 ∙ (z l ∙ ap (λ x. on l x == 0) (sym (older_is p w g).1))),
-    λ r o l. ap (λ x. nat_cmp (on l x) (weight l u r)) (newer_is p w g).1 ∙ (s r o l ∙ ap (λ x. nat_cmp (on l x) (weight l t r)) (sym (older_is p w g).1)),
+    λ l. ap (λ x. on l x == 0) (newer_is p w g).1 ∙ (z l ∙ ap (λ x. on l x == 0) (sym (older_is p w g).1)),
   )
+
+  pub placed : (p : Piece) (w : Weighed) → WeighedIn t u p (Ok w) → ((r : List ℕ) → old_piece (old_in marks) t r ≡ true → StandsTo w r) → Placed (letters_of p)
+  placed p w g s r o l =
+      ap (λ x. nat_cmp (on l x) (weight l u r)) (newer_is p w g).1 ∙ (s r o l ∙ ap (λ x. nat_cmp (on l x) (weight l t r)) (sym (older_is p w g).1))
 
 module _ (marks : List Bool) (older newer : Table) where
   -- what is one in a table is one in the other
@@ -175,9 +178,10 @@ module _ (marks : List Bool) (older newer : Table) where
   joined_too one other h run o e = let two = joined_two one run e in let k = h run in grind (arith, nat_tests)
 
   pub all_kept : ((run : List ℕ) → old_piece (old_in marks) (rules_of newer) run ≡ true → is_piece (rules_of older) run ≡ true)
-      → ((run : List ℕ) → old_piece (old_in marks) (rules_of older) run ≡ true → Kept marks (rules_of older) (rules_of newer) run)
+      → ((run : List ℕ) → old_piece (old_in marks) (rules_of older) run ≡ true → Counted marks (rules_of older) (rules_of newer) run)
+      → ((run : List ℕ) → old_piece (old_in marks) (rules_of older) run ≡ true → Placed marks (rules_of older) (rules_of newer) run)
       → Decided (old_in marks) (rules_of older) (rules_of newer) (Ok tt)
-  all_kept a b = let k : Keeps (old_in marks) (rules_of older) (rules_of newer) = record {
+  all_kept a b d = let k : Keeps (old_in marks) (rules_of older) (rules_of newer) = record {
       runs = λ run o. both_ways ((rules_of newer).joins run) ((rules_of older).joins run) (joined_too newer older a run o) (joined_too older newer (λ r p. (b r p).0) run o);
-      levels = λ l. record { zeros = λ p o. (b p o).1 l; order = λ p q o r. (b p o).2 q r l };
+      levels = λ l. record { zeros = λ p o. (b p o).1 l; order = λ p q o r. d p o q r l };
     } in (k, newer_tables (old_in marks) (rules_of older) (rules_of newer) k)

@@ -28,8 +28,10 @@ pub fn keeps_order(older: &Table, newer: &Table, old: &[bool; 256]) -> Result<()
         Weighed::new(piece, older, newer)?;
     }
     for piece in OldPieces::new(older, old) {
+        Weighed::new(piece, older, newer)?.same_zeros()?;
+    }
+    for piece in OldPieces::new(older, old) {
         let weighed = Weighed::new(piece, older, newer)?;
-        weighed.same_zeros()?;
         for other in OldPieces::new(older, old) {
             weighed.same_order(&Weighed::new(other, older, newer)?)?;
         }

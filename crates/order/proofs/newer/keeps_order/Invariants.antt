@@ -1,7 +1,7 @@
 use Rattle.std.proofs.Common.{◌≡◌, true}
 use Rattle.table.specs.Meaning.{rules_of}
 use Rattle.order.specs.Newer.{is_piece}
-use Rattle.order.proofs.Deciding.{Kept, Seen, StandsTo}
+use Rattle.order.proofs.Deciding.{Counted, Placed, Seen, StandsTo}
 use Rattle.order.proofs.newer.keeps_order.Given as goal
 
 -- what is read so far of the newer table is a piece of the older
@@ -21,4 +21,10 @@ abbrev pub invariant-loop-piece-2 : goal.invariant-loop-piece-2
 invariant-loop-piece-2 l =
     (goal.iterator-loop-piece-2).can_next l.piece-iterator × (goal.iterator-loop-piece-2).is_finite l.piece-iterator
     × (l.piece-iterator.table.now ≡ l.fn.older) × (l.piece-iterator.old.now ≡ l.fn.old)
-    × Seen l.piece-iterator (Kept l.fn.old (rules_of l.fn.older) (rules_of l.fn.newer))
+    × Seen l.piece-iterator (Counted l.fn.old (rules_of l.fn.older) (rules_of l.fn.newer))
+
+abbrev pub invariant-loop-piece-3 : goal.invariant-loop-piece-3
+invariant-loop-piece-3 l =
+    (goal.iterator-loop-piece-3).can_next l.piece-iterator × (goal.iterator-loop-piece-3).is_finite l.piece-iterator
+    × (l.piece-iterator.table.now ≡ l.fn.older) × (l.piece-iterator.old.now ≡ l.fn.old)
+    × Seen l.piece-iterator (Placed l.fn.old (rules_of l.fn.older) (rules_of l.fn.newer))
