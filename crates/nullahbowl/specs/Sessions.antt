@@ -1,5 +1,5 @@
 -- What the lines read so far make, and what one line more changes.
-use Rattle.std.specs.Prelude.{◌≡◌, ℕ, true, false, cond, List, [], Some, None, Ok, Err, Option, Result}
+use Rattle.std.specs.Prelude.{◌≡◌, ℕ, Bool, true, false, cond, List, [], replicate, slice_set, Some, None, Ok, Err, Option, Result}
 use Rattle.keys.specs.Making.{Made}
 use Rattle.table.specs.declared.piece.Pair.{Pair}
 use Rattle.table.specs.Buffer.{Added, buffer_pairs, buffer_rules}
@@ -21,20 +21,24 @@ session_rules s = cond s.own (buffer_rules s.table) valley
 abbrev pub session_pairs : Session → List Pair
 session_pairs s = cond s.own (buffer_pairs s.table) valley_pairs
 
+-- the letters that its lines name; all, where no line has made it
+abbrev pub session_letters : Session → List Bool
+session_letters s = cond s.own s.named (replicate 256 true)
+
 -- a failure in other words
 abbrev pub Restated : {R : Type 0} → (R → Fault → Type 0) → Failure R → Failure Fault → Type 0
 Restated gives (Refused r) (Refused f) = gives r f
 Restated gives (Refused r) NoMemory = ⊥
 Restated gives NoMemory f = f ≡ NoMemory
 
--- a pair is added as the table says, and nothing is asked for
+-- a pair is added as the table says, its letters are named, and nothing is asked for
 abbrev pub PairTaken : {V : Type 0} → Session → Pair → Result (Option V) (Failure Fault) → Session → Type 0
-PairTaken s p (Ok None) t = Added s.table p (Ok tt) t.table × (t.own ≡ true)
+PairTaken s p (Ok None) t = Added s.table p (Ok tt) t.table × (t.own ≡ true) × (t.named ≡ slice_set (slice_set s.named p.first true) p.second true)
 PairTaken s p (Ok (Some v)) t = ⊥
-PairTaken s p (Err (Refused (Table why))) t = Added s.table p (Err (Refused why)) t.table × (t.own ≡ s.own)
+PairTaken s p (Err (Refused (Table why))) t = Added s.table p (Err (Refused why)) t.table × (t.own ≡ s.own) × (t.named ≡ s.named)
 PairTaken s p (Err (Refused (Name why))) t = ⊥
 PairTaken s p (Err (Refused (Text k))) t = ⊥
-PairTaken s p (Err NoMemory) t = Added s.table p (Err NoMemory) t.table × (t.own ≡ s.own)
+PairTaken s p (Err NoMemory) t = Added s.table p (Err NoMemory) t.table × (t.own ≡ s.own) × (t.named ≡ s.named)
 
 -- a key is made, or not, as under a checked table
 abbrev pub KeyAnswered : {V : Type 0} → Rules → List ℕ → (V → List ℕ) → Result (Option V) (Failure Fault) → Type 0
@@ -48,6 +52,7 @@ KeyAnswered rules n items (Err NoMemory) = Made rules n items (Err NoMemory)
 -- nothing has been taken yet
 pub record Fresh (s : Session) : Type 0 where
   pub own : s.own ≡ false
+  pub named : s.named ≡ replicate 256 false
   pub rules : buffer_rules s.table ≡ no_rules
   pub pairs : buffer_pairs s.table ≡ []
 
@@ -57,7 +62,7 @@ Taken s blank k items r t = (r ≡ Ok None) × (t ≡ s)
 Taken s unreadable k items r t = (r ≡ Err (Refused (Text k))) × (t ≡ s)
 Taken s (asks_key n) k items r t = KeyAnswered (session_rules s) n items r × (t ≡ s)
 Taken s (says (SetLetter a w)) k items r t =
-    (r ≡ Ok None) × (t.own ≡ true)
+    (r ≡ Ok None) × (t.own ≡ true) × (t.named ≡ slice_set s.named a true)
     × (buffer_rules t.table ≡ with_letter (buffer_rules s.table) a w)
     × (buffer_pairs t.table ≡ buffer_pairs s.table)
 Taken s (says (AddPair p)) k items r t = PairTaken s p r t

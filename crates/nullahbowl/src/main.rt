@@ -1,4 +1,4 @@
-// Reads a table of weights, line after line, and answers with sort keys, or says what the table is.
+// Reads a table of weights, line after line, and answers with sort keys, or says what the table is or what a newer one changes.
 #![tactic(auto)]
 
 ghost use Rattle.std.specs.Prelude.{◌≡◌, ◌+◌, ◌-◌, ◌^◌, min};
@@ -6,30 +6,50 @@ ghost use Rattle.std.specs.Prelude.{◌≡◌, ◌+◌, ◌-◌, ◌^◌, min};
 mod session;
 
 use anyhow::anyhow;
+use order::keeps_order;
 use session::{Session, TakeError};
 use std::io::{BufWriter, Read, Write};
 use std::process::ExitCode;
 use std::{env, fs, io};
 use table::{Table, Weights};
-use texts::{Command, Fault, Numbers, Parts};
+use texts::{Command, Fault, Numbers, Parts, Told};
 
 const HELP: &str =
-    "usage: nullahbowl [FILE ..]\n\nReads lines from the files, or from standard input where none is named or the name is -:\n\n  letter X a b c     the letter X weighs a, b and c\n  pair X Y a b c     the letters X and Y are one together, and weigh a, b and c\n  key X              writes the sort key of the name X\n\nWhere no key is asked for, writes the table that the lines make. What is turned away is said on standard error.\n";
+    "usage: nullahbowl [FILE ..]\n       nullahbowl --newer OLD NEW\n\nReads lines from the files, or from standard input where none is named or the name is -:\n\n  letter X a b c     the letter X weighs a, b and c\n  pair X Y a b c     the letters X and Y are one together, and weigh a, b and c\n  key X              writes the sort key of the name X\n\nWhere no key is asked for, writes the table that the lines make. What is turned away is said on standard error.\n\nWith --newer, says whether names in the letters that OLD names stand to each other under the table of NEW as under that of\nOLD, or what stands otherwise.\n";
 
 fn main(rt: HostRuntime) -> anyhow::Result<ExitCode> {
-    let faults = run(&rt)?;
-    if faults > 0 {
-        return Ok(ExitCode::FAILURE);
+    if run(&rt)? {
+        return Ok(ExitCode::SUCCESS);
     }
-    Ok(ExitCode::SUCCESS)
+    Ok(ExitCode::FAILURE)
 }
 
-// Does what the arguments say, and answers how much was turned away.
-fn run(rt: &HostRuntime) -> anyhow::Result<usize> {
+// Does what the arguments say. Answers whether nothing was turned away, and nothing stands otherwise under a newer table.
+fn run(rt: &HostRuntime) -> anyhow::Result<bool> {
     if asks_help(rt)? {
         rt.print(HELP)?;
-        return Ok(0);
+        return Ok(true);
     }
+    match newer_asked(rt)? {
+        Some((older, newer)) => compare(rt, older.as_str(), newer.as_str()),
+        None => answer(rt),
+    }
+}
+
+// The two tables that `--newer` names, where it is the first argument.
+fn newer_asked(rt: &HostRuntime) -> anyhow::Result<Option<(String, String)>> {
+    let mut names = env::args(rt)?.skip(1);
+    if !names.next().is_some_and(|name| name.as_str() == "--newer") {
+        return Ok(None);
+    }
+    match (names.next(), names.next(), names.next()) {
+        (Some(older), Some(newer), None) => Ok(Some((older, newer))),
+        _ => Err(anyhow!("--newer wants two files: OLD NEW")),
+    }
+}
+
+// Reads the files that the arguments name, and answers what they ask for; writes their table where they ask for nothing.
+fn answer(rt: &HostRuntime) -> anyhow::Result<bool> {
     let mut session = Session::new(rt.alloc())?;
     let mut tally = Tally::default();
     let mut names = env::args(rt)?.skip(1).peekable();
@@ -42,7 +62,29 @@ fn run(rt: &HostRuntime) -> anyhow::Result<usize> {
     if tally.asked == 0 {
         write_table(rt, &session.table())?;
     }
-    Ok(tally.faults)
+    Ok(tally.faults == 0)
+}
+
+// Says whether names in the letters of the older table stand to each other under the newer one as before.
+fn compare(rt: &HostRuntime, older: &str, newer: &str) -> anyhow::Result<bool> {
+    let mut old = Session::new(rt.alloc())?;
+    let mut new = Session::new(rt.alloc())?;
+    let tally = read_named(rt, &mut old, older)?.and(read_named(rt, &mut new, newer)?);
+    if tally.faults > 0 {
+        eprintln!(rt; "{older} and {newer} are not compared, since something was turned away")?;
+        return Ok(false);
+    }
+    match keeps_order(&old.table(), &new.table(), &old.letters()) {
+        Ok(()) => {
+            println!(rt; "{newer} keeps the order of {older}")?;
+            Ok(true)
+        }
+        Err(change) => {
+            let told = Told(change);
+            println!(rt; "{newer} changes the order of {older}: {told}")?;
+            Ok(false)
+        }
+    }
 }
 
 fn asks_help(rt: &HostRuntime) -> anyhow::Result<bool> {

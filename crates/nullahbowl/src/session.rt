@@ -1,6 +1,6 @@
 // What the lines read so far make.
 ghost use Rattle.std.specs.Prelude.{◌≡◌, IfOk, vec_items};
-ghost use Rattle.nullahbowl.specs.Sessions.{Fresh, KeyAnswered, PairTaken, Restated, Taken, session_pairs, session_rules};
+ghost use Rattle.nullahbowl.specs.Sessions.{Fresh, KeyAnswered, PairTaken, Restated, Taken, session_letters, session_pairs, session_rules};
 ghost use Rattle.table.specs.Meaning.{pairs_of, rules_of};
 ghost use Rattle.texts.specs.Lines.{line_of};
 ghost use Rattle.texts.specs.Parts.{without_return};
@@ -16,6 +16,8 @@ pub struct Session {
     // Whether a line has set a letter or added a pair. Beside the table, and not an `Option` of it, since a table that is
     // made by the first such line would want memory for it, and setting a letter wants none.
     own: bool,
+    // The letters that such a line names.
+    named: [bool; 256],
 }
 
 // Why a line was not taken; nothing has changed then.
@@ -29,6 +31,7 @@ impl Session {
         Ok(Session {
             table: TableBuf::new(heap)?,
             own: false,
+            named: [false; 256],
         })
     }
 
@@ -42,6 +45,13 @@ impl Session {
         } else {
             Table::valley()
         }
+    }
+
+    // The letters that its lines name; all, where no line has made it.
+    pub fn letters(&self) -> [bool; 256]
+        ensures { result ≡ session_letters self.now }
+    {
+        if self.own { self.named } else { [true; 256] }
     }
 
     // One line more, which stands at `place` in its file, and what it asks for: the sort key of a name.
@@ -60,6 +70,7 @@ impl Session {
             Line::Says(Command::SetLetter(letter, weights)) => {
                 self.table.set_letter(letter, weights);
                 self.own = true;
+                self.named[letter as usize] = true;
                 Ok(None)
             }
             Line::Says(Command::AddPair(pair)) => self.add(pair),
@@ -72,6 +83,8 @@ impl Session {
     {
         self.table.add_pair(pair).map_err(restated)?;
         self.own = true;
+        self.named[pair.first as usize] = true;
+        self.named[pair.second as usize] = true;
         Ok(None)
     }
 

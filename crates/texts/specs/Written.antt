@@ -1,9 +1,15 @@
 -- How letters, commands, numbers and messages are written.
 use Rattle.std.specs.Prelude.{ℕ, ◌/◌, ◌%◌, true, cond, ◌&&◌, List, [], ◌∷◌, ◌++◌, codes, decimal, nat_le}
 use Rattle.std.specs.Fmt.{digit_glyph}
+use Rattle.keys.specs.declared.level.Level.{Level}
+use Rattle.keys.specs.declared.level.Level.TheVariants.{Primary, Secondary, Tertiary}
 use Rattle.keys.specs.declared.fault.NameRefusal.{NameRefusal}
 use Rattle.keys.specs.declared.fault.NameRefusal.TheVariants.{TooLong}
 use Rattle.keys.specs.Refusals.{name_refusal_number, name_refusal_place}
+use Rattle.order.specs.declared.newer.Change.{Change}
+use Rattle.order.specs.declared.newer.Change.TheVariants.{Together, Counts, Order}
+use Rattle.order.specs.declared.piece.Piece.{Piece}
+use Rattle.order.specs.declared.piece.Piece.TheVariants as piece
 use Rattle.table.specs.declared.fault.Refusal.{Refusal}
 use Rattle.table.specs.declared.fault.Refusal.TheVariants.{Letters, Shape, TooMany, Foreign, Twice}
 use Rattle.table.specs.declared.piece.Weights.{Weights}
@@ -67,3 +73,20 @@ sentence_of (Text line) = codes "a line is 'letter X a b c', 'pair X Y a b c' or
 -- the message: number, place and sentence
 abbrev pub fault_text : Fault → List ℕ
 fault_text f = codes "turned away with " ++ (decimal (fault_number f) ++ (codes " at " ++ (decimal (fault_place f) ++ (codes ": " ++ sentence_of f))))
+
+-- the letters of a piece, one space between
+abbrev pub piece_text : Piece → List ℕ
+piece_text (piece.Letter a) = letter_text a
+piece_text (piece.Pair a b) = letter_text a ++ (codes " " ++ letter_text b)
+
+-- levels are counted from 1 where they are written
+abbrev pub level_number : Level → ℕ
+level_number Primary = 1
+level_number Secondary = 2
+level_number Tertiary = 3
+
+-- what a newer table changes
+abbrev pub change_text : Change → List ℕ
+change_text (Together p) = piece_text p ++ codes " are one together in only one of the tables"
+change_text (Counts p l) = piece_text p ++ (codes " weighs 0 on level " ++ (decimal (level_number l) ++ codes " in only one of the tables"))
+change_text (Order p q l) = piece_text p ++ (codes " and " ++ (piece_text q ++ (codes " stand otherwise on level " ++ decimal (level_number l))))

@@ -1,8 +1,10 @@
-// Letters, commands and the numbers of keys as they are written.
-ghost use Rattle.std.specs.Prelude.{Some};
-ghost use Rattle.texts.specs.Written.{command_text, letter_text, numbers_text, weights_text};
+// Letters, commands, the numbers of keys and what a newer table changes, as they are written.
+ghost use Rattle.std.specs.Prelude.{◌≡◌, Some};
+ghost use Rattle.texts.specs.Written.{change_text, command_text, letter_text, level_number, numbers_text, piece_text, weights_text};
 
 use crate::line::Command;
+use keys::Level;
+use order::{Change, Piece};
 use std::fmt;
 use table::Weights;
 
@@ -74,5 +76,66 @@ impl fmt::Display for Numbers<'_> {
             }
         }
         Ok(())
+    }
+}
+
+// What a newer table changes, in a sentence.
+#[derive(Clone, Copy)]
+pub struct Told(pub Change);
+
+impl fmt::Display for Told {
+    ghost output = { λ x. Some (change_text x.0) };
+
+    fn fmt<W: fmt::Write>(&self, f: &mut fmt::Formatter<W>) -> fmt::Result {
+        match self.0 {
+            Change::Together(piece) => {
+                let piece = Letters(piece);
+                write!(f, "{piece} are one together in only one of the tables")
+            }
+            Change::Counts(piece, level) => {
+                let piece = Letters(piece);
+                let level = level_number(level);
+                write!(f, "{piece} weighs 0 on level {level} in only one of the tables")
+            }
+            Change::Order(one, other, level) => {
+                let one = Letters(one);
+                let other = Letters(other);
+                let level = level_number(level);
+                write!(f, "{one} and {other} stand otherwise on level {level}")
+            }
+        }
+    }
+}
+
+// The letters of a piece, one space between.
+#[derive(Clone, Copy)]
+struct Letters(Piece);
+
+impl fmt::Display for Letters {
+    ghost output = { λ x. Some (piece_text x.0) };
+
+    fn fmt<W: fmt::Write>(&self, f: &mut fmt::Formatter<W>) -> fmt::Result {
+        match self.0 {
+            Piece::Letter(letter) => {
+                let letter = Letter(u16::from(letter));
+                write!(f, "{letter}")
+            }
+            Piece::Pair(first, second) => {
+                let first = Letter(u16::from(first));
+                let second = Letter(u16::from(second));
+                write!(f, "{first} {second}")
+            }
+        }
+    }
+}
+
+// Levels are counted from 1 where they are written.
+fn level_number(level: Level) -> u8
+    ensures { result ≡ level_number level }
+{
+    match level {
+        Level::Primary => 1,
+        Level::Secondary => 2,
+        Level::Tertiary => 3,
     }
 }

@@ -1,8 +1,9 @@
 // How commands, messages and numbers are written.
-use keys::NameRefusal;
+use keys::{Level, NameRefusal};
+use order::{Change, Piece};
 use std::test::Fail;
 use table::{Pair, Refusal, Weights};
-use texts::{Command, Fault, Numbers};
+use texts::{Command, Fault, Numbers, Told};
 
 const ONE: Weights = Weights {
     primary: 1,
@@ -65,6 +66,29 @@ fn numbers(rt: HostRuntime) -> Result<(), Fail> {
     assert_eq!(rt;
         Numbers(&[30, 0, 4294967295]).to_string(heap)?.as_str(),
         "30 0 4294967295"
+    );
+    Ok(())
+}
+
+#[test]
+fn changes(rt: HostRuntime) -> Result<(), Fail> {
+    let heap = rt.alloc();
+    let pair = Piece::Pair(99, 32);
+    let mark = Piece::Letter(252);
+    let together = Told(Change::Together(pair)).to_string(heap)?;
+    assert_eq!(rt;
+        together.as_str(),
+        "c U+0020 are one together in only one of the tables"
+    );
+    let counts = Told(Change::Counts(mark, Level::Secondary)).to_string(heap)?;
+    assert_eq!(rt;
+        counts.as_str(),
+        "U+00FC weighs 0 on level 2 in only one of the tables"
+    );
+    let order = Told(Change::Order(mark, pair, Level::Tertiary)).to_string(heap)?;
+    assert_eq!(rt;
+        order.as_str(),
+        "U+00FC and c U+0020 stand otherwise on level 3"
     );
     Ok(())
 }
