@@ -21,7 +21,7 @@ session_rules s = cond s.own (buffer_rules s.table) valley
 abbrev pub session_pairs : Session → List Pair
 session_pairs s = cond s.own (buffer_pairs s.table) valley_pairs
 
--- the letters that its lines name; all, where no line has made it
+-- the letters that the lines of the table name; all, where it is the valley's
 abbrev pub session_letters : Session → List Bool
 session_letters s = cond s.own s.named (replicate 256 true)
 

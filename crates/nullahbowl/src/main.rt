@@ -15,7 +15,7 @@ use table::{Table, Weights};
 use texts::{Command, Fault, Numbers, Parts, Told};
 
 const HELP: &str =
-    "usage: nullahbowl [FILE ..]\n       nullahbowl --newer OLD NEW\n\nReads lines from the files, or from standard input where none is named or the name is -:\n\n  letter X a b c     the letter X weighs a, b and c\n  pair X Y a b c     the letters X and Y are one together, and weigh a, b and c\n  key X              writes the sort key of the name X\n\nWhere no key is asked for, writes the table that the lines make. What is turned away is said on standard error.\n\nWith --newer, says whether names in the letters that OLD names stand to each other under the table of NEW as under that of\nOLD, or what stands otherwise.\n";
+    "usage: nullahbowl [FILE ..]\n       nullahbowl --newer OLD NEW\n\nReads lines from the files, or from standard input where none is named or the name is -:\n\n  letter X a b c     the letter X weighs a, b and c\n  pair X Y a b c     the letters X and Y are one together, and weigh a, b and c\n  key X              writes the sort key of the name X\n\nWhere no key is asked for, writes the table that the lines make. What is turned away is said on standard error.\n\nWith --newer, tests whether the table of NEW keeps what that of OLD says of the letters in OLD's lines. Where it does, all names\nin these letters stand to each other as before; else the first thing that stands otherwise is told.\n";
 
 fn main(rt: HostRuntime) -> anyhow::Result<ExitCode> {
     if run(&rt)? {
@@ -24,7 +24,7 @@ fn main(rt: HostRuntime) -> anyhow::Result<ExitCode> {
     Ok(ExitCode::FAILURE)
 }
 
-// Does what the arguments say. Answers whether nothing was turned away, and nothing stands otherwise under a newer table.
+// Does what the arguments say. Answers whether nothing was turned away, and a newer table keeps what the older says.
 fn run(rt: &HostRuntime) -> anyhow::Result<bool> {
     if asks_help(rt)? {
         rt.print(HELP)?;
@@ -42,10 +42,13 @@ fn newer_asked(rt: &HostRuntime) -> anyhow::Result<Option<(String, String)>> {
     if !names.next().is_some_and(|name| name.as_str() == "--newer") {
         return Ok(None);
     }
-    match (names.next(), names.next(), names.next()) {
-        (Some(older), Some(newer), None) => Ok(Some((older, newer))),
-        _ => Err(anyhow!("--newer wants two files: OLD NEW")),
+    let (Some(older), Some(newer), None) = (names.next(), names.next(), names.next()) else {
+        return Err(anyhow!("--newer wants two files: OLD NEW"));
+    };
+    if older.as_str() == "-" && newer.as_str() == "-" {
+        return Err(anyhow!("--newer can read only one of the two from standard input"));
     }
+    Ok(Some((older, newer)))
 }
 
 // Reads the files that the arguments name, and answers what they ask for; writes their table where they ask for nothing.
@@ -65,13 +68,15 @@ fn answer(rt: &HostRuntime) -> anyhow::Result<bool> {
     Ok(tally.faults == 0)
 }
 
-// Says whether names in the letters of the older table stand to each other under the newer one as before.
+// Says whether a newer table keeps what the older one says of the letters that its lines name, or what stands otherwise.
 fn compare(rt: &HostRuntime, older: &str, newer: &str) -> anyhow::Result<bool> {
     let mut old = Session::new(rt.alloc())?;
     let mut new = Session::new(rt.alloc())?;
     let tally = read_named(rt, &mut old, older)?.and(read_named(rt, &mut new, newer)?);
     if tally.faults > 0 {
-        eprintln!(rt; "{older} and {newer} are not compared, since something was turned away")?;
+        eprintln!(rt;
+            "{older} and {newer} are not compared, since something was turned away or could not be read"
+        )?;
         return Ok(false);
     }
     match keeps_order(&old.table(), &new.table(), &old.letters()) {
@@ -81,7 +86,7 @@ fn compare(rt: &HostRuntime, older: &str, newer: &str) -> anyhow::Result<bool> {
         }
         Err(change) => {
             let told = Told(change);
-            println!(rt; "{newer} changes the order of {older}: {told}")?;
+            println!(rt; "{newer} may change the order of {older}: {told}")?;
             Ok(false)
         }
     }

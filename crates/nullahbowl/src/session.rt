@@ -47,7 +47,7 @@ impl Session {
         }
     }
 
-    // The letters that its lines name; all, where no line has made it.
+    // The letters that the lines of the table name; all, where it is the valley's.
     pub fn letters(&self) -> [bool; 256]
         ensures { result ≡ session_letters self.now }
     {

@@ -13,7 +13,7 @@ use Rattle.table.specs.Meaning.{pairs_of, rules_of}
 use Rattle.table.specs.Rules.{Rules}
 use Rattle.table.specs.declared.view.Table.{Table}
 use Rattle.table.proofs.Lawful.{listed, listed_joins}
-use Rattle.order.specs.Changes.{Changed, Decided, SameOrder, SameZero, Tested, WeighedIn}
+use Rattle.order.specs.Changes.{Changed, Decided, InBoth, SameOrder, SameZero, Tested, WeighedIn}
 use Rattle.order.proofs.Keeping.{newer_tables}
 use Rattle.order.specs.Newer.{Keeps, is_piece, old_piece}
 use Rattle.order.specs.Pieces.{NextPiece, NoneBetween, letters_of, old_at, old_in, places, run_at}
@@ -73,10 +73,10 @@ seen_more P s p t n h g j q l e =
     ⊎_elim
     (λ b. h j q b from)
     (λ b.
-      ⊎_elim
-      (λ k. absurd (none-some q (sym (n.2.3 j b k) ∙ from)))
-      (λ k. let i : j ≡ n.2.0 = omega (arith, l, k, n.2.5) in subst P (same_Some _ _ (sym n.2.4 ∙ (ap (old_at s) (sym i) ∙ from))) g)
-      (cases_lt j n.2.0))
+    ⊎_elim
+    (λ k. absurd (none-some q (sym (n.2.3 j b k) ∙ from)))
+    (λ k. let i : j ≡ n.2.0 = omega (arith, l, k, n.2.5) in subst P (same_Some _ _ (sym n.2.4 ∙ (ap (old_at s) (sym i) ∙ from))) g)
+    (cases_lt j n.2.0))
     (cases_lt j s.place)
 
 -- all are
@@ -115,8 +115,8 @@ module _ (marks : List Bool) (t u : Rules) where
   -- a change that is one speaks against the tests
   refuted : (c : Change) → Changed (old_in marks) t u c → Keeps (old_in marks) t u → ⊥
   refuted (Together p) h k = h.1 (k.runs (letters_of p) h.0)
-  refuted (Counts p l) h k = h.1 ((k.levels l).zeros (letters_of p) h.0)
-  refuted (Order p q l) h k = h.2 ((k.levels l).order (letters_of p) (letters_of q) h.0 h.1)
+  refuted (Counts p l) h k = h.1 ((k.levels l).zeros (letters_of p) h.0.0)
+  refuted (Order p q l) h k = h.2 ((k.levels l).order (letters_of p) (letters_of q) h.0.0 h.1.0)
 
   told : (c : Change) → Changed (old_in marks) t u c → Decided (old_in marks) t u (Err c)
   told c h = (h, refuted c h)
@@ -126,6 +126,9 @@ module _ (marks : List Bool) (t u : Rules) where
 
   a_piece : (run : List ℕ) (b : Rules) → old_piece (old_in marks) b run ≡ true → is_piece b run ≡ true
   a_piece run b o = grind arith
+
+  both : (p : Piece) → old_piece (old_in marks) t (letters_of p) ≡ true → (w : Weighed) → WeighedIn t u p (Ok w) → InBoth (old_in marks) t u p
+  both p o w g = (o, ap₂ (λ a b. a && b) (all_old (letters_of p) t o) (newer_is p w g).0)
 
   -- letters that are a piece in only one of the tables are one in only one
   parted : (one j k : Bool) → (one || j) && (one || k) ≡ false → ((one || j ≡ true) ⊎ (one || k ≡ true)) → k ≡ j → ⊥
@@ -147,16 +150,20 @@ module _ (marks : List Bool) (t u : Rules) where
       → Decided (old_in marks) t u (Err c)
   zero_changed p w c o g (l, is, not) =
       subst (λ c. Decided (old_in marks) t u (Err c)) (sym (is ∙ ap (λ x. Counts x l) g.0))
-        (told (Counts p l) (o, λ f. not (ap (λ x. on l x == 0) (sym (newer_is p w g).1) ∙ (f ∙ ap (λ x. on l x == 0) (older_is p w g).1))))
+      (told (Counts p l) (both p o w g, λ f. not (ap (λ x. on l x == 0) (sym (newer_is p w g).1) ∙ (f ∙ ap (λ x. on l x == 0) (older_is p w g).1))))
 
   pub order_changed : (p q : Piece) (v w : Weighed) (c : Change) → old_piece (old_in marks) t (letters_of p) ≡ true → old_piece (old_in marks) t (letters_of q) ≡ true
       → WeighedIn t u p (Ok v) → WeighedIn t u q (Ok w) → Tested (SameOrder v w) (Order v.piece w.piece) (Err c) → Decided (old_in marks) t u (Err c)
   order_changed p q v w c o r g h (l, is, not) =
       subst (λ c. Decided (old_in marks) t u (Err c)) (sym (is ∙ ap₂ (λ x y. Order x y l) g.0 h.0))
-        (told (Order p q l) (o, r, λ f. not (
-          ap₂ (λ x y. nat_cmp (on l x) (on l y)) (sym (newer_is p v g).1) (sym (newer_is q w h).1)
-          ∙ (f ∙ ap₂ (λ x y. nat_cmp (on l x) (on l y)) (older_is p v g).1 (older_is q w h).1)
-        )))
+      (told (Order p q l) (
+        both p o v g,
+        both q r w h,
+        λ f. not (
+            ap₂ (λ x y. nat_cmp (on l x) (on l y)) (sym (newer_is p v g).1) (sym (newer_is q w h).1)
+            ∙ (f ∙ ap₂ (λ x y. nat_cmp (on l x) (on l y)) (older_is p v g).1 (older_is q w h).1)
+            ),
+      ))
 
   pub stands : (q : Piece) (v w : Weighed) → WeighedIn t u q (Ok w) → Tested (SameOrder v w) (Order v.piece w.piece) (Ok tt) → StandsTo v (letters_of q)
   stands q v w h e l = ap (λ x. nat_cmp (on l v.newer) (on l x)) (newer_is q w h).1 ∙ (e l ∙ ap (λ x. nat_cmp (on l v.older) (on l x)) (sym (older_is q w h).1))
@@ -182,6 +189,6 @@ module _ (marks : List Bool) (older newer : Table) where
       → ((run : List ℕ) → old_piece (old_in marks) (rules_of older) run ≡ true → Placed marks (rules_of older) (rules_of newer) run)
       → Decided (old_in marks) (rules_of older) (rules_of newer) (Ok tt)
   all_kept a b d = let k : Keeps (old_in marks) (rules_of older) (rules_of newer) = record {
-      runs = λ run o. both_ways ((rules_of newer).joins run) ((rules_of older).joins run) (joined_too newer older a run o) (joined_too older newer (λ r p. (b r p).0) run o);
-      levels = λ l. record { zeros = λ p o. (b p o).1 l; order = λ p q o r. d p o q r l };
-    } in (k, newer_tables (old_in marks) (rules_of older) (rules_of newer) k)
+    runs = λ run o. both_ways ((rules_of newer).joins run) ((rules_of older).joins run) (joined_too newer older a run o) (joined_too older newer (λ r p. (b r p).0) run o);
+    levels = λ l. record { zeros = λ p o. (b p o).1 l; order = λ p q o r. d p o q r l };
+  } in (k, newer_tables (old_in marks) (rules_of older) (rules_of newer) k)

@@ -57,4 +57,4 @@ apart t ns o i j ij jl = first_rows t (slice_index_or ns j []) (slice_index_or n
 pub together : Together
 together t ns asked i j k o ij jk kl =
     between asked (row Primary t (slice_index_or ns i [])) (row Primary t (slice_index_or ns j [])) (row Primary t (slice_index_or ns k []))
-      (apart t ns o i j ij (omega arith)) (apart t ns o j k jk kl)
+    (apart t ns o i j ij (omega arith)) (apart t ns o j k jk kl)

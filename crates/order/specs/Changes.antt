@@ -12,18 +12,22 @@ use Rattle.order.specs.declared.newer.Weighed.{Weighed}
 use Rattle.order.specs.declared.piece.Piece.{Piece}
 use Rattle.table.specs.Rules.{Rules}
 
--- A change is what it says it is: old letters that are one together in only one of the tables; an old piece that weighs 0 on
--- the level in only one of them; two old pieces that do not stand to each other on the level as before.
+-- an old piece of both tables
+abbrev pub InBoth : (old : ℕ → Bool) → Rules → Rules → Piece → Type 0
+InBoth old t u p = (old_piece old t (letters_of p) ≡ true) × (old_piece old u (letters_of p) ≡ true)
+
+-- A change is what it says it is: old letters that are one together in only one of the tables; an old piece of both that
+-- weighs 0 on the level in only one of them; two old pieces of both that do not stand to each other on the level as before.
 abbrev pub Changed : (old : ℕ → Bool) → Rules → Rules → Change → Type 0
 Changed old t u (Together p) = (list_all old (letters_of p) ≡ true) × (u.joins (letters_of p) ≡ t.joins (letters_of p) → ⊥)
 Changed old t u (Counts p l) =
-    (old_piece old t (letters_of p) ≡ true)
+    InBoth old t u p
     × ((weight l u (letters_of p) == 0) ≡ (weight l t (letters_of p) == 0) → ⊥)
 Changed old t u (Order p q l) =
-    (old_piece old t (letters_of p) ≡ true) × (old_piece old t (letters_of q) ≡ true)
+    InBoth old t u p × InBoth old t u q
     × (nat_cmp (weight l u (letters_of p)) (weight l u (letters_of q)) ≡ nat_cmp (weight l t (letters_of p)) (weight l t (letters_of q)) → ⊥)
 
--- The newer table keeps what the older says of old letters, and so names of old letters stand to each other as before; or it
+-- The newer table keeps what the older says of old letters, and so names in old letters stand to each other as before; or it
 -- doesn't, and something has changed.
 abbrev pub Decided : (old : ℕ → Bool) → Rules → Rules → Result Unit Change → Type 0
 Decided old t u (Ok x) = Keeps old t u × KeepsNames old t u
@@ -42,7 +46,7 @@ SameZero w l = (on l w.newer == 0) ≡ (on l w.older == 0)
 abbrev pub SameOrder : Weighed → Weighed → Level → Type 0
 SameOrder v w l = nat_cmp (on l v.newer) (on l w.newer) ≡ nat_cmp (on l v.older) (on l w.older)
 
--- the same on every level, or on which not
+-- something holds on every level; or it doesn't on some level, and the change is told of that one
 abbrev pub Tested : (Level → Type 0) → (Level → Change) → Result Unit Change → Type 0
 Tested P change (Ok x) = (l : Level) → P l
 Tested P change (Err c) = (l : Level) × (c ≡ change l) × (P l → ⊥)

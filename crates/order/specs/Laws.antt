@@ -10,17 +10,18 @@ use Rattle.order.specs.Newer.{Keeps, KeepsNames, SameRuns, Scaled}
 use Rattle.order.specs.Rows.{FreeButLast, before, begins, by_levels, row_order}
 use Rattle.table.specs.Rules.{Rules}
 
--- ---- rows, as many on both sides, of which all but the last are free of zeros
+-- ---- rows
 
--- joined, with a 0 between each and the next, they are in the order by levels
+-- Of rows in any number, as many on both sides, all but the last free of zeros: joined, with a 0 between each and the next,
+-- they stand in the order by levels.
 abbrev pub JoinedByLevels : Type 0
 JoinedByLevels = (rs ss : List (List ℕ)) → length rs ≡ length ss → FreeButLast rs → FreeButLast ss → row_order (joined rs) (joined ss) ≡ by_levels rs ss
 
--- from what they are joined to they are read back
+-- such rows are read back from what they are joined to
 abbrev pub JoinedReadsBack : Type 0
 JoinedReadsBack = (rs ss : List (List ℕ)) → length rs ≡ length ss → FreeButLast rs → FreeButLast ss → joined rs ≡ joined ss → rs ≡ ss
 
--- rows that are in no order are the same
+-- rows of which neither is before the other are the same
 abbrev pub AlikeAreSame : Type 0
 AlikeAreSame = (xs ys : List ℕ) → row_order xs ys ≡ Equal → xs ≡ ys
 
@@ -30,6 +31,7 @@ Between =
     (asked x y z : List ℕ) → before y x ≡ false → before z y ≡ false →
     begins x asked ≡ true → begins z asked ≡ true → begins y asked ≡ true
 
+-- all of these, and that the order of rows is a total one
 pub record RowLaws : Type 0 where
   pub joined_by_levels : JoinedByLevels
   pub joined_reads_back : JoinedReadsBack
@@ -68,10 +70,11 @@ ReadBack = (t u : Rules) (a b : List ℕ) → key t a ≡ key u b → rows t a �
 abbrev pub NewerTables : Type 0
 NewerTables = (old : ℕ → Bool) (t u : Rules) → Keeps old t u → KeepsNames old t u
 
--- the same where the weights of both tables rise onto a common scale, level by level
+-- the same where the same runs of old letters are one, and the weights of both tables rise onto a common scale on each level
 abbrev pub NewerByScales : Type 0
 NewerByScales = (old : ℕ → Bool) (t u : Rules) → SameRuns old t u → ((l : Level) → Scaled old t u l) → KeepsNames old t u
 
+-- all of these
 pub record OrderLaws : Type 0 where
   pub levels : Levels
   pub order : AnOrder

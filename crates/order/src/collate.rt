@@ -14,7 +14,7 @@ use table::Table;
 // Where a name's first row stands to the first row of what is asked.
 #[derive(Clone, Copy, PartialEq, Eq, Debug)]
 pub enum Standing {
-    // Before it, and it doesn't begin with it.
+    // Before it.
     Before,
     // It begins with it.
     Begins,

@@ -1,4 +1,8 @@
-// Names compared, level by level, and what is promised of their order.
+// The order of names.
+//
+// The trait `Collate` gives a checked `Table` two methods: `compare` of two names, level by level, and where a name stands to
+// what is asked, a `Standing` (collate). `keeps_order` says whether a newer table keeps old pieces as they stood (newer, piece),
+// and `row_laws` and `order_laws` carry what is promised of rows and of names (laws).
 #![tactic(auto)]
 
 mod collate;

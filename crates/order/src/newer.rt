@@ -1,4 +1,4 @@
-// Whether a newer table keeps old names in their order.
+// What a newer table keeps of an older one.
 ghost use Rattle.order.specs.Changes.{Decided, SameOrder, SameZero, Tested, WeighedIn};
 ghost use Rattle.order.specs.Pieces.{old_in};
 ghost use Rattle.order.specs.declared.newer.Change.TheVariants.{Counts, Order};
@@ -11,7 +11,7 @@ use table::{Table, Weights};
 // What a newer table says of old letters otherwise than the older one.
 #[derive(Clone, Copy, PartialEq, Eq, Debug)]
 pub enum Change {
-    // These letters are one together in only one of the tables.
+    // These letters, a pair, are one together in only one of the tables.
     Together(Piece),
     // This piece weighs 0 on the level in only one of the tables.
     Counts(Piece, Level),
@@ -19,8 +19,8 @@ pub enum Change {
     Order(Piece, Piece, Level),
 }
 
-// Whether names of old letters stand to each other under the newer table as under the older one, or else what has changed.
-// Old are the letters that are marked.
+// Whether the newer table keeps what the older one says of old letters; else what has changed. Where it keeps, all names in
+// old letters stand to each other as before. Old are the letters that are marked.
 pub fn keeps_order(older: &Table, newer: &Table, old: &[bool; 256]) -> Result<(), Change>
     ensures { Decided (old_in old.now) (rules_of older.now) (rules_of newer.now) result }
 {
@@ -61,7 +61,7 @@ impl Weighed {
         }
     }
 
-    // It weighs 0 on the same levels.
+    // Whether it weighs 0 on the same levels under both tables; else one on which it doesn't.
     fn same_zeros(&self) -> Result<(), Change>
         ensures { Tested (SameZero self.now) (Counts self.now.piece) result }
     {
@@ -73,7 +73,7 @@ impl Weighed {
         Ok(())
     }
 
-    // It stands to another piece on each level as before.
+    // Whether it stands to another piece on each level as before; else one on which it doesn't.
     fn same_order(&self, other: &Weighed) -> Result<(), Change>
         ensures { Tested (SameOrder self.now other.now) (Order self.now.piece other.now.piece) result }
     {

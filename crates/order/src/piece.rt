@@ -64,7 +64,10 @@ impl<'a, 't> OldPieces<'a, 't> {
             Ok(letter) => Piece::Letter(letter),
             Err(_) => {
                 let pair = self.table.pair_at(place - Table::LETTERS)?;
-                Piece::Pair(u8::try_from(pair.first).ok()?, u8::try_from(pair.second).ok()?)
+                Piece::Pair(
+                    u8::try_from(pair.first).ok()?,
+                    u8::try_from(pair.second).ok()?,
+                )
             }
         };
         piece.is_old(self.old).then_some(piece)

@@ -26,20 +26,17 @@ fn valley(rt: HostRuntime) -> Result<(), Fail> {
         rt.alloc(),
         &Table::valley(),
         &[
-            b"", b"\x00", b" \xff", b"'", b"a", b"a ", b"a'", b"cab", b"Cab", b"cab'", b"cad", b"cz",
-            b"chad", b"da", b"z",
+            b"", b"\x00", b" \xff", b"'", b"a", b"a ", b"a'", b"cab", b"Cab", b"cab'", b"cad",
+            b"cz", b"chad", b"da", b"z",
         ],
     )
 }
 
-// Names with the same key are in no order, whatever their letters.
+// Of names with the same key neither is before the other, whatever their letters.
 #[test]
 fn same_keys(rt: HostRuntime) {
     let table = Table::valley();
-    for (one, other) in [
-        (b"\x00", b"\xff"),
-        (b"!", b"?"),
-    ] {
+    for (one, other) in [(b"\x00", b"\xff"), (b"!", b"?")] {
         assert_eq!(rt; table.compare(one, other), Ordering::Equal);
         assert_eq!(rt; table.compare(other, one), Ordering::Equal);
     }

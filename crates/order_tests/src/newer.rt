@@ -53,14 +53,40 @@ fn keeps(rt: HostRuntime) -> Result<(), Fail> {
     }
     let old = marked(LETTERS);
     assert_eq!(rt; keeps_order(&older.table(), &newer.table(), &old), Ok(()));
-    assert_eq!(rt; keeps_order(&older.table(), &older.table(), &[true; 256]), Ok(()));
-    assert_eq!(rt; keeps_order(&Table::valley(), &Table::valley(), &[true; 256]), Ok(()));
+    assert_eq!(rt;
+        keeps_order(&older.table(), &older.table(), &[true; 256]),
+        Ok(())
+    );
+    assert_eq!(rt;
+        keeps_order(&Table::valley(), &Table::valley(), &[true; 256]),
+        Ok(())
+    );
     let names: [&[u8]; 9] = [b"", b"a", b"bc", b"abc", b"b", b"c", b"cb", b"xcc", b"bca"];
     for one in names {
         for other in names {
-            assert_eq!(rt; older.table().compare(one, other), newer.table().compare(one, other));
+            assert_eq!(rt;
+                older.table().compare(one, other),
+                newer.table().compare(one, other)
+            );
         }
     }
+    Ok(())
+}
+
+// An old letter that weighs nothing must not come to count.
+#[test]
+fn letter_without_weight(rt: HostRuntime) -> Result<(), Fail> {
+    let older = older(rt.alloc())?;
+    let mut newer = self::older(rt.alloc())?;
+    newer.set_letter(b'd', Weights::from([0, 0, 5]));
+    assert_eq!(rt;
+        keeps_order(&older.table(), &newer.table(), &marked(LETTERS)),
+        Ok(())
+    );
+    assert_eq!(rt;
+        keeps_order(&older.table(), &newer.table(), &marked(b"abcd")),
+        Err(Change::Counts(Piece::Letter(b'd'), Level::Tertiary))
+    );
     Ok(())
 }
 
@@ -68,8 +94,14 @@ fn keeps(rt: HostRuntime) -> Result<(), Fail> {
 #[test]
 fn nothing_old(rt: HostRuntime) -> Result<(), Fail> {
     let empty = TableBuf::new(rt.alloc())?;
-    assert_eq!(rt; keeps_order(&Table::valley(), &empty.table(), &[false; 256]), Ok(()));
-    assert_eq!(rt; keeps_order(&empty.table(), &Table::valley(), &[false; 256]), Ok(()));
+    assert_eq!(rt;
+        keeps_order(&Table::valley(), &empty.table(), &[false; 256]),
+        Ok(())
+    );
+    assert_eq!(rt;
+        keeps_order(&empty.table(), &Table::valley(), &[false; 256]),
+        Ok(())
+    );
     Ok(())
 }
 
@@ -83,16 +115,41 @@ fn pairs(rt: HostRuntime) -> Result<(), Fail> {
     newer.set_letter(b'c', Weights::from([20, 2, 1]));
     let old = marked(LETTERS);
     let lost = Change::Together(Piece::Pair(b'b', b'c'));
-    assert_eq!(rt; keeps_order(&older.table(), &newer.table(), &old), Err(lost));
-    assert_eq!(rt; keeps_order(&newer.table(), &older.table(), &old), Err(lost));
-    assert_eq!(rt; keeps_order(&newer.table(), &older.table(), &marked(b"ab")), Ok(()));
-    assert_eq!(rt; keeps_order(&newer.table(), &older.table(), &marked(b"c")), Ok(()));
+    assert_eq!(rt;
+        keeps_order(&older.table(), &newer.table(), &old),
+        Err(lost)
+    );
+    assert_eq!(rt;
+        keeps_order(&newer.table(), &older.table(), &old),
+        Err(lost)
+    );
+    assert_eq!(rt;
+        keeps_order(&newer.table(), &older.table(), &marked(b"ab")),
+        Ok(())
+    );
+    assert_eq!(rt;
+        keeps_order(&newer.table(), &older.table(), &marked(b"c")),
+        Ok(())
+    );
     Ok(())
 }
 
 // A weight that becomes 0, or is 0 no more, on the level that is named.
 #[test]
 fn zeros(rt: HostRuntime) -> Result<(), Fail> {
+    let mut newer = TableBuf::new(rt.alloc())?;
+    newer.set_letter(b'a', Weights::from([10, 1, 0]));
+    newer.set_letter(b'b', Weights::from([20, 1, 2]));
+    newer.set_letter(b'c', Weights::from([20, 2, 1]));
+    newer.add_pair(bc([15, 0, 1]))?;
+    assert_eq!(rt;
+        keeps_order(
+            &older(rt.alloc())?.table(),
+            &newer.table(),
+            &marked(LETTERS)
+        ),
+        Err(Change::Counts(Piece::Pair(b'b', b'c'), Level::Secondary))
+    );
     for (letter, weights, level) in [
         (b'a', [0, 1, 0], Level::Primary),
         (b'b', [20, 0, 2], Level::Secondary),
@@ -103,8 +160,14 @@ fn zeros(rt: HostRuntime) -> Result<(), Fail> {
         newer.set_letter(letter, Weights::from(weights));
         let change = Change::Counts(Piece::Letter(letter), level);
         let old = marked(LETTERS);
-        assert_eq!(rt; keeps_order(&older.table(), &newer.table(), &old), Err(change));
-        assert_eq!(rt; keeps_order(&newer.table(), &older.table(), &old), Err(change));
+        assert_eq!(rt;
+            keeps_order(&older.table(), &newer.table(), &old),
+            Err(change)
+        );
+        assert_eq!(rt;
+            keeps_order(&newer.table(), &older.table(), &old),
+            Err(change)
+        );
     }
     Ok(())
 }
@@ -113,16 +176,57 @@ fn zeros(rt: HostRuntime) -> Result<(), Fail> {
 #[test]
 fn order(rt: HostRuntime) -> Result<(), Fail> {
     for (letter, weights, one, other, level) in [
-        (b'b', [21, 1, 2], Piece::Letter(b'b'), Piece::Letter(b'c'), Level::Primary),
-        (b'a', [15, 1, 0], Piece::Letter(b'a'), Piece::Pair(b'b', b'c'), Level::Primary),
-        (b'a', [10, 2, 0], Piece::Letter(b'a'), Piece::Letter(b'b'), Level::Secondary),
-        (b'b', [20, 1, 1], Piece::Letter(b'b'), Piece::Letter(b'c'), Level::Tertiary),
+        (
+            b'b',
+            [21, 1, 2],
+            Piece::Letter(b'b'),
+            Piece::Letter(b'c'),
+            Level::Primary,
+        ),
+        (
+            b'a',
+            [15, 1, 0],
+            Piece::Letter(b'a'),
+            Piece::Pair(b'b', b'c'),
+            Level::Primary,
+        ),
+        (
+            b'a',
+            [10, 2, 0],
+            Piece::Letter(b'a'),
+            Piece::Letter(b'b'),
+            Level::Secondary,
+        ),
+        (
+            b'b',
+            [20, 1, 1],
+            Piece::Letter(b'b'),
+            Piece::Letter(b'c'),
+            Level::Tertiary,
+        ),
+        (
+            b'a',
+            [30, 1, 0],
+            Piece::Letter(b'a'),
+            Piece::Letter(b'b'),
+            Level::Primary,
+        ),
+        (
+            b'a',
+            [17, 1, 0],
+            Piece::Letter(b'a'),
+            Piece::Pair(b'b', b'c'),
+            Level::Primary,
+        ),
     ] {
         let older = older(rt.alloc())?;
         let mut newer = self::older(rt.alloc())?;
         newer.set_letter(letter, Weights::from(weights));
         let change = Change::Order(one, other, level);
-        assert_eq!(rt; keeps_order(&older.table(), &newer.table(), &marked(LETTERS)), Err(change));
+        assert_eq!(rt;
+            keeps_order(&older.table(), &newer.table(), &marked(LETTERS)),
+            Err(change)
+        );
     }
     Ok(())
 }

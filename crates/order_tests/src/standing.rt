@@ -1,6 +1,7 @@
 // Where names stand to what is asked.
 use order::{Collate, Standing};
-use table::Table;
+use std::test::Fail;
+use table::{Pair, Table, TableBuf, Weights};
 
 // What is asked, and how many names are before it and how many begin with it.
 #[derive(Clone, Copy)]
@@ -43,4 +44,31 @@ fn valley(rt: HostRuntime) {
             assert_eq!(rt; table.standing(name, case.0), standing);
         }
     }
+}
+
+// Names and questions that are empty on level one, and a pair that counts there where its letters don't.
+#[test]
+fn own_table(rt: HostRuntime) -> Result<(), Fail> {
+    let mut own = TableBuf::new(rt.alloc())?;
+    own.set_letter(b'a', Weights::from([2, 0, 0]));
+    own.set_letter(b'b', Weights::from([0, 1, 1]));
+    own.add_pair(Pair {
+        first: 98,
+        second: 98,
+        weights: Weights::from([1, 0, 0]),
+    })?;
+    let table = own.table();
+    assert_eq!(rt; table.standing(b"", b""), Standing::Begins);
+    assert_eq!(rt; table.standing(b"", b"b"), Standing::Begins);
+    assert_eq!(rt; table.standing(b"b", b"x"), Standing::Begins);
+    assert_eq!(rt; table.standing(b"", b"a"), Standing::Before);
+    assert_eq!(rt; table.standing(b"bx", b"bb"), Standing::Before);
+    assert_eq!(rt; table.standing(b"bb", b"b"), Standing::Begins);
+    assert_eq!(rt; table.standing(b"bb", b"a"), Standing::Before);
+    assert_eq!(rt; table.standing(b"a", b"bb"), Standing::After);
+    assert_eq!(rt; table.standing(b"bab", b"ab"), Standing::Begins);
+    assert_eq!(rt; table.standing(b"bbb", b"xbxb"), Standing::Begins);
+    assert_eq!(rt; table.standing(b"bbb", b"bbx"), Standing::Begins);
+    assert_eq!(rt; table.standing(b"bb", b"bbbb"), Standing::Before);
+    Ok(())
 }

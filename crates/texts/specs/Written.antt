@@ -1,4 +1,4 @@
--- How letters, commands, numbers and messages are written.
+-- How letters, commands, numbers, changes and messages are written.
 use Rattle.std.specs.Prelude.{ℕ, ◌/◌, ◌%◌, true, cond, ◌&&◌, List, [], ◌∷◌, ◌++◌, codes, decimal, nat_le}
 use Rattle.std.specs.Fmt.{digit_glyph}
 use Rattle.keys.specs.declared.level.Level.{Level}

@@ -95,7 +95,10 @@ impl fmt::Display for Told {
             Change::Counts(piece, level) => {
                 let piece = Letters(piece);
                 let level = level_number(level);
-                write!(f, "{piece} weighs 0 on level {level} in only one of the tables")
+                write!(
+                    f,
+                    "{piece} weighs 0 on level {level} in only one of the tables"
+                )
             }
             Change::Order(one, other, level) => {
                 let one = Letters(one);

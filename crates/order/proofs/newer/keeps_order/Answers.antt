@@ -42,7 +42,10 @@ loop-piece-2-preserved c =
     let p = c.in-Some-piece.piece in
     let n = c.in-Some-piece.ensures.steps in
     let w = c.in_ok-new-2.field-0 in (
-      tt, tt, ap (λ x. x.now) n.0 ∙ i.2, ap (λ x. x.now) n.1 ∙ i.3,
+      tt,
+      tt,
+      ap (λ x. x.now) n.0 ∙ i.2,
+      ap (λ x. x.now) n.1 ∙ i.3,
       seen_more (Counted m t u) s p _ n i.4 (counted m t u p w c.in_ok-new-2.ensures c.in_ok-same_zeros.ensures),
     )
 
@@ -84,7 +87,10 @@ loop-piece-3-preserved c =
     let w = c.in_ok-weighed.weighed in
     let k = c.loop-other.invariant in
     let all = seen_all (StandsTo m t u w) c.loop-other.other-iterator c.in-None-other.ensures.steps k.4 c.args.older.now k.2 m k.3 in (
-      tt, tt, ap (λ x. x.now) n.0 ∙ i.2, ap (λ x. x.now) n.1 ∙ i.3,
+      tt,
+      tt,
+      ap (λ x. x.now) n.0 ∙ i.2,
+      ap (λ x. x.now) n.1 ∙ i.3,
       seen_more (Placed m t u) s p _ n i.4 (placed m t u p w c.in_ok-weighed.ensures all),
     )
 
@@ -112,7 +118,10 @@ loop-other-preserved c =
     let h = c.in-Some-other.ensures.steps in
     let w = c.in_ok-weighed.weighed in
     let v = c.in_ok-new-3.field-0 in (
-      tt, tt, ap (λ x. x.now) h.0 ∙ k.2, ap (λ x. x.now) h.1 ∙ k.3,
+      tt,
+      tt,
+      ap (λ x. x.now) h.0 ∙ k.2,
+      ap (λ x. x.now) h.1 ∙ k.3,
       seen_more (StandsTo m t u w) r q _ h k.4 (stands m t u q w v c.in_ok-new-3.ensures c.in_ok-same_order.ensures),
     )
 
