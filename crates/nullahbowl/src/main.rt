@@ -1,4 +1,4 @@
-// Reads a table of weights, line after line, and answers with sort keys, or says what the table is or what a newer one changes.
+// Reads tables of weights, line after line, and answers with sort keys, says what the table is, or what a newer one keeps.
 #![tactic(auto)]
 
 ghost use Rattle.std.specs.Prelude.{◌≡◌, ◌+◌, ◌-◌, ◌^◌, min};
