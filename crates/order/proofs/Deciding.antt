@@ -18,7 +18,7 @@ use Rattle.order.proofs.Keeping.{newer_tables}
 use Rattle.order.specs.Newer.{Keeps, is_piece, old_piece}
 use Rattle.order.specs.Pieces.{NextPiece, NoneBetween, letters_of, old_at, old_in, places, run_at}
 use Rattle.order.specs.declared.newer.Change.{Change}
-use Rattle.order.specs.declared.newer.Change.TheVariants.{Together, Counts, Order}
+use Rattle.order.specs.declared.newer.Change.TheVariants.{Joins, Counts, Order}
 use Rattle.order.specs.declared.newer.Weighed.{Weighed}
 use Rattle.order.specs.declared.piece.OldPieces.{OldPieces}
 use Rattle.order.specs.declared.piece.Piece.{Piece}
@@ -62,34 +62,36 @@ module _ (s : OldPieces) where
       let d = cond_some (list_all old (run_at s.table.now j)) (run_at s.table.now j) q e in
       subst (λ r. old_piece old rules r ≡ true) d.1 (ap₂ (λ a b. a && b) d.0 (piece_at j l))
 
-  -- of each old piece that was met so far
-  abbrev pub Seen : (List ℕ → Type 0) → Type 0
-  Seen P = (j : ℕ) (q : List ℕ) → j < s.place → old_at s j ≡ Some q → P q
+-- a walk over the old pieces of a table: of those met so far P holds
+abbrev pub Walked : Table → (marks : List Bool) → (List ℕ → Type 0) → OldPieces → Type 0
+Walked b m P s = (s.table.now ≡ b) × (s.old.now ≡ m) × ((j : ℕ) (q : List ℕ) → j < s.place → old_at s j ≡ Some q → P q)
 
--- one more is met
-pub seen_more : (P : List ℕ → Type 0) (s : OldPieces) (p : Piece) (t : OldPieces) → NextPiece s (Some p) t → Seen s P → P (letters_of p) → Seen t P
-seen_more P s p t n h g j q l e =
-    let from : old_at s j ≡ Some q = ap₂ (λ b o. old_at (record { table = b; old = o; place = 0 }) j) (sym n.0) (sym n.1) ∙ e in
-    ⊎_elim
-    (λ b. h j q b from)
-    (λ b.
-    ⊎_elim
-    (λ k. absurd (none-some q (sym (n.2.3 j b k) ∙ from)))
-    (λ k. let i : j ≡ n.2.0 = omega (arith, l, k, n.2.5) in subst P (same_Some _ _ (sym n.2.4 ∙ (ap (old_at s) (sym i) ∙ from))) g)
-    (cases_lt j n.2.0))
-    (cases_lt j s.place)
+module _ (b : Table) (m : List Bool) (P : List ℕ → Type 0) (s : OldPieces) where
+  -- one more is met
+  pub walked_more : (p : Piece) (t : OldPieces) → NextPiece s (Some p) t → Walked b m P s → P (letters_of p) → Walked b m P t
+  walked_more p t n w g = (ap (λ x. x.now) n.0 ∙ w.0, ap (λ x. x.now) n.1 ∙ w.1, go)
+    where
+      go : (j : ℕ) (q : List ℕ) → j < t.place → old_at t j ≡ Some q → P q
+      go j q l e =
+          let from : old_at s j ≡ Some q = ap₂ (λ b o. old_at (record { table = b; old = o; place = 0 }) j) (sym n.0) (sym n.1) ∙ e in
+          ⊎_elim
+          (λ k. w.2 j q k from)
+          (λ k.
+          ⊎_elim
+          (λ h. absurd (none-some q (sym (n.2.3 j k h) ∙ from)))
+          (λ h. let i : j ≡ n.2.0 = omega (arith, l, h, n.2.5) in subst P (same_Some _ _ (sym n.2.4 ∙ (ap (old_at s) (sym i) ∙ from))) g)
+          (cases_lt j n.2.0))
+          (cases_lt j s.place)
 
--- all are
-pub seen_all : (P : List ℕ → Type 0) (s : OldPieces) → NoneBetween s s.place (places s.table.now) → Seen s P → (b : Table) → s.table.now ≡ b → (m : List Bool) → s.old.now ≡ m
-    → (run : List ℕ) → old_piece (old_in m) (rules_of b) run ≡ true → P run
-seen_all P s n h b eb m em run o =
-    let c = complete s run (ap₂ (λ m b. old_piece (old_in m) (rules_of b) run) em eb ∙ o) in
-    ⊎_elim (λ b. h c.0 run b c.2) (λ b. absurd (none-some run (sym (n c.0 b c.1) ∙ c.2))) (cases_lt c.0 s.place)
+  -- all are
+  pub walked_all : NoneBetween s s.place (places s.table.now) → Walked b m P s → (run : List ℕ) → old_piece (old_in m) (rules_of b) run ≡ true → P run
+  walked_all n w run o =
+      let c = complete s run (ap₂ (λ m b. old_piece (old_in m) (rules_of b) run) w.1 w.0 ∙ o) in
+      ⊎_elim (λ k. w.2 c.0 run k c.2) (λ k. absurd (none-some run (sym (n c.0 k c.1) ∙ c.2))) (cases_lt c.0 s.place)
 
--- what is met is an old piece
-pub met : (s : OldPieces) (p : Piece) (t : OldPieces) → NextPiece s (Some p) t → (b : Table) → s.table.now ≡ b → (m : List Bool) → s.old.now ≡ m
-    → old_piece (old_in m) (rules_of b) (letters_of p) ≡ true
-met s p t n b eb m em = ap₂ (λ m b. old_piece (old_in m) (rules_of b) (letters_of p)) (sym em) (sym eb) ∙ sound s n.2.0 (letters_of p) n.2.2 n.2.4
+  -- what is met is an old piece
+  pub met : (p : Piece) (t : OldPieces) → NextPiece s (Some p) t → Walked b m P s → old_piece (old_in m) (rules_of b) (letters_of p) ≡ true
+  met p t n w = ap₂ (λ m b. old_piece (old_in m) (rules_of b) (letters_of p)) (sym w.1) (sym w.0) ∙ sound s n.2.0 (letters_of p) n.2.2 n.2.4
 
 module _ (marks : List Bool) (t u : Rules) where
   -- a piece stands to another in both tables as it was weighed
@@ -114,7 +116,7 @@ module _ (marks : List Bool) (t u : Rules) where
 
   -- a change that is one speaks against the tests
   refuted : (c : Change) → Changed (old_in marks) t u c → Keeps (old_in marks) t u → ⊥
-  refuted (Together p) h k = h.1 (k.runs (letters_of p) h.0)
+  refuted (Joins p) h k = h.1 (k.runs (letters_of p) h.0)
   refuted (Counts p l) h k = h.1 ((k.levels l).zeros (letters_of p) h.0.0)
   refuted (Order p q l) h k = h.2 ((k.levels l).order (letters_of p) (letters_of q) h.0.0 h.1.0)
 
@@ -138,7 +140,7 @@ module _ (marks : List Bool) (t u : Rules) where
       → WeighedIn t u p (Err c) → Decided (old_in marks) t u (Err c)
   only_one p c o f g =
       let run = letters_of p in
-      subst (λ c. Decided (old_in marks) t u (Err c)) (sym g.0) (told (Together p) (o, parted (length run == 1) (t.joins run) (u.joins run) g.1 f))
+      subst (λ c. Decided (old_in marks) t u (Err c)) (sym g.0) (told (Joins p) (o, parted (length run == 1) (t.joins run) (u.joins run) g.1 f))
 
   pub in_older_only : (p : Piece) (c : Change) → old_piece (old_in marks) t (letters_of p) ≡ true → WeighedIn t u p (Err c) → Decided (old_in marks) t u (Err c)
   in_older_only p c o g = only_one p c (all_old (letters_of p) t o) (inl (a_piece (letters_of p) t o)) g

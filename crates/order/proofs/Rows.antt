@@ -10,13 +10,13 @@ use Rattle.order.specs.Rows.{row_order}
 use Rattle.order.specs.Laws.{AlikeAreSame, Between, JoinedByLevels, JoinedReadsBack}
 
 -- rows with a 0 behind them, and more
-pub split : (r s x y : List ℕ) → ZeroFree r → ZeroFree s → row_order (r ++ (0 ∷ x)) (s ++ (0 ∷ y)) ≡ ordering_then (row_order r s) (row_order x y)
+split : (r s x y : List ℕ) → ZeroFree r → ZeroFree s → row_order (r ++ (0 ∷ x)) (s ++ (0 ∷ y)) ≡ ordering_then (row_order r s) (row_order x y)
 split [] [] x y f g = refl
 split [] (b ∷ s) x y f g = grind (arith, nat_tests)
 split (a ∷ r) [] x y f g = grind (arith, nat_tests)
 split (a ∷ r) (b ∷ s) x y f g = let ih = split r s x y (f.1) (g.1) in grind (arith, nat_tests)
 
-pub split_back : (r s x y : List ℕ) → ZeroFree r → ZeroFree s → r ++ (0 ∷ x) ≡ s ++ (0 ∷ y) → (r ≡ s) × (x ≡ y)
+split_back : (r s x y : List ℕ) → ZeroFree r → ZeroFree s → r ++ (0 ∷ x) ≡ s ++ (0 ∷ y) → (r ≡ s) × (x ≡ y)
 split_back [] [] x y f g e = grind arith
 split_back [] (b ∷ s) x y f g e = grind arith
 split_back (a ∷ r) [] x y f g e = grind arith

@@ -7,7 +7,7 @@ use Rattle.keys.specs.declared.level.Level.{Level}
 use Rattle.order.specs.Newer.{Keeps, KeepsNames, is_piece, old_piece}
 use Rattle.order.specs.Pieces.{letters_of, piece_weights}
 use Rattle.order.specs.declared.newer.Change.{Change}
-use Rattle.order.specs.declared.newer.Change.TheVariants.{Together, Counts, Order}
+use Rattle.order.specs.declared.newer.Change.TheVariants.{Joins, Counts, Order}
 use Rattle.order.specs.declared.newer.Weighed.{Weighed}
 use Rattle.order.specs.declared.piece.Piece.{Piece}
 use Rattle.table.specs.Rules.{Rules}
@@ -19,7 +19,7 @@ InBoth old t u p = (old_piece old t (letters_of p) ≡ true) × (old_piece old u
 -- A change is what it says it is: old letters that are one together in only one of the tables; an old piece of both that
 -- weighs 0 on the level in only one of them; two old pieces of both that do not stand to each other on the level as before.
 abbrev pub Changed : (old : ℕ → Bool) → Rules → Rules → Change → Type 0
-Changed old t u (Together p) = (list_all old (letters_of p) ≡ true) × (u.joins (letters_of p) ≡ t.joins (letters_of p) → ⊥)
+Changed old t u (Joins p) = (list_all old (letters_of p) ≡ true) × (u.joins (letters_of p) ≡ t.joins (letters_of p) → ⊥)
 Changed old t u (Counts p l) =
     InBoth old t u p
     × ((weight l u (letters_of p) == 0) ≡ (weight l t (letters_of p) == 0) → ⊥)
@@ -36,7 +36,7 @@ Decided old t u (Err c) = Changed old t u c × (Keeps old t u → ⊥)
 -- what a piece weighs under both tables, or that it is a piece in one of them only
 abbrev pub WeighedIn : Rules → Rules → Piece → Result Weighed Change → Type 0
 WeighedIn t u p (Ok w) = (w.piece ≡ p) × (piece_weights t (letters_of p) ≡ Some w.older) × (piece_weights u (letters_of p) ≡ Some w.newer)
-WeighedIn t u p (Err c) = (c ≡ Together p) × (is_piece t (letters_of p) && is_piece u (letters_of p) ≡ false)
+WeighedIn t u p (Err c) = (c ≡ Joins p) × (is_piece t (letters_of p) && is_piece u (letters_of p) ≡ false)
 
 -- it counts on the level under both tables, or under none
 abbrev pub SameZero : Weighed → Level → Type 0

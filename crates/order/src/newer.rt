@@ -12,7 +12,7 @@ use table::{Table, Weights};
 #[derive(Clone, Copy, PartialEq, Eq, Debug)]
 pub enum Change {
     // These letters, a pair, are one together in only one of the tables.
-    Together(Piece),
+    Joins(Piece),
     // This piece weighs 0 on the level in only one of the tables.
     Counts(Piece, Level),
     // These two pieces do not stand to each other on the level as before.
@@ -57,7 +57,7 @@ impl Weighed {
                 older,
                 newer,
             }),
-            _ => Err(Change::Together(piece)),
+            _ => Err(Change::Joins(piece)),
         }
     }
 

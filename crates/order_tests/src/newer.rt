@@ -114,7 +114,7 @@ fn pairs(rt: HostRuntime) -> Result<(), Fail> {
     newer.set_letter(b'b', Weights::from([20, 1, 2]));
     newer.set_letter(b'c', Weights::from([20, 2, 1]));
     let old = marked(LETTERS);
-    let lost = Change::Together(Piece::Pair(b'b', b'c'));
+    let lost = Change::Joins(Piece::Pair(b'b', b'c'));
     assert_eq!(rt;
         keeps_order(&older.table(), &newer.table(), &old),
         Err(lost)

@@ -7,7 +7,7 @@ use Rattle.keys.specs.declared.fault.NameRefusal.{NameRefusal}
 use Rattle.keys.specs.declared.fault.NameRefusal.TheVariants.{TooLong}
 use Rattle.keys.specs.Refusals.{name_refusal_number, name_refusal_place}
 use Rattle.order.specs.declared.newer.Change.{Change}
-use Rattle.order.specs.declared.newer.Change.TheVariants.{Together, Counts, Order}
+use Rattle.order.specs.declared.newer.Change.TheVariants.{Joins, Counts, Order}
 use Rattle.order.specs.declared.piece.Piece.{Piece}
 use Rattle.order.specs.declared.piece.Piece.TheVariants as piece
 use Rattle.table.specs.declared.fault.Refusal.{Refusal}
@@ -87,6 +87,6 @@ level_number Tertiary = 3
 
 -- what a newer table changes
 abbrev pub change_text : Change → List ℕ
-change_text (Together p) = piece_text p ++ codes " are one together in only one of the tables"
+change_text (Joins p) = piece_text p ++ codes " are one together in only one of the tables"
 change_text (Counts p l) = piece_text p ++ (codes " weighs 0 on level " ++ (decimal (level_number l) ++ codes " in only one of the tables"))
 change_text (Order p q l) = piece_text p ++ (codes " and " ++ (piece_text q ++ (codes " stand otherwise on level " ++ decimal (level_number l))))

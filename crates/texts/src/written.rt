@@ -88,7 +88,7 @@ impl fmt::Display for Told {
 
     fn fmt<W: fmt::Write>(&self, f: &mut fmt::Formatter<W>) -> fmt::Result {
         match self.0 {
-            Change::Together(piece) => {
+            Change::Joins(piece) => {
                 let piece = Letters(piece);
                 write!(f, "{piece} are one together in only one of the tables")
             }

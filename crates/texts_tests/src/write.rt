@@ -75,7 +75,7 @@ fn changes(rt: HostRuntime) -> Result<(), Fail> {
     let heap = rt.alloc();
     let pair = Piece::Pair(99, 32);
     let mark = Piece::Letter(252);
-    let together = Told(Change::Together(pair)).to_string(heap)?;
+    let together = Told(Change::Joins(pair)).to_string(heap)?;
     assert_eq!(rt;
         together.as_str(),
         "c U+0020 are one together in only one of the tables"
