@@ -43,7 +43,7 @@ an_order = record {
 }
 
 -- of names in order the first rows are
-first_rows : (t : Rules) (a b : List ℕ) → name_before t a b ≡ false → before (row Primary t a) (row Primary t b) ≡ false
+pub first_rows : (t : Rules) (a b : List ℕ) → name_before t a b ≡ false → before (row Primary t a) (row Primary t b) ≡ false
 first_rows t a b h = let e = levels t a b in grind arith
 
 apart : (t : Rules) (ns : List (List ℕ)) → InOrder t ns → (i j : ℕ) → i ≤ j → j < length ns

@@ -7,7 +7,7 @@ use Rattle.std.proofs.lemmas.Bool.Decides.{nat_tests}
 use Rattle.keys.specs.Laws.{ZeroFree}
 use Rattle.keys.specs.Rows.{joined}
 use Rattle.order.specs.Rows.{row_order}
-use Rattle.order.specs.Laws.{AlikeAreSame, Between, JoinedByLevels, JoinedReadsBack}
+use Rattle.order.specs.Laws.{AlikeAreSame, Between, JoinedByLevels, JoinedReadsBack, StandingsRise}
 
 -- rows with a 0 behind them, and more
 split : (r s x y : List ℕ) → ZeroFree r → ZeroFree s → row_order (r ++ (0 ∷ x)) (s ++ (0 ∷ y)) ≡ ordering_then (row_order r s) (row_order x y)
@@ -34,6 +34,12 @@ between (q ∷ p) [] y z l m hx hz = grind arith
 between (q ∷ p) (x ∷ xs) y [] l m hx hz = grind arith
 between (q ∷ p) (x ∷ xs) [] (z ∷ zs) l m hx hz = grind arith
 between (q ∷ p) (x ∷ xs) (y ∷ ys) (z ∷ zs) l m hx hz = let ih = between p xs ys zs in grind (arith, nat_tests)
+
+pub standings_rise : StandingsRise
+standings_rise [] x y l = grind arith
+standings_rise (q ∷ p) [] y l = grind arith
+standings_rise (q ∷ p) (x ∷ xs) [] l = grind arith
+standings_rise (q ∷ p) (x ∷ xs) (y ∷ ys) l = let ih = standings_rise p xs ys in grind (arith, nat_tests)
 
 then_none : (o : Ordering) → o ≡ ordering_then o Equal
 then_none Less = refl

@@ -5,7 +5,7 @@ use Rattle.std.specs.declared.cmp.Ordering.TheVariants.{Equal}
 use Rattle.keys.specs.Rows.{joined, key, row, rows}
 use Rattle.keys.specs.declared.level.Level.{Level}
 use Rattle.keys.specs.declared.level.Level.TheVariants.{Primary}
-use Rattle.order.specs.Names.{name_before, name_order}
+use Rattle.order.specs.Names.{along, name_before, name_order, standing}
 use Rattle.order.specs.Newer.{Keeps, KeepsNames, SameRuns, Scaled}
 use Rattle.order.specs.Rows.{FreeButLast, before, begins, by_levels, row_order}
 use Rattle.table.specs.Rules.{Rules}
@@ -31,6 +31,10 @@ Between =
     (asked x y z : List ℕ) → before y x ≡ false → before z y ≡ false →
     begins x asked ≡ true → begins z asked ≡ true → begins y asked ≡ true
 
+-- of a row that is not before another the standing is met no earlier
+abbrev pub StandingsRise : Type 0
+StandingsRise = (asked x y : List ℕ) → before y x ≡ false → along (standing x asked) ≤ along (standing y asked)
+
 -- all of these, and that the order of rows is a total one
 pub record RowLaws : Type 0 where
   pub joined_by_levels : JoinedByLevels
@@ -38,6 +42,7 @@ pub record RowLaws : Type 0 where
   pub total : IsTotalOrder row_order
   pub alike_are_same : AlikeAreSame
   pub between : Between
+  pub standings_rise : StandingsRise
 
 -- ---- names, under every table
 

@@ -18,3 +18,9 @@ name_before t a b = before (key t a) (key t b)
 -- where a row stands to the one that is asked for: it begins with it; else it is before it, or after it
 abbrev pub standing : (row asked : List ℕ) → Standing
 standing row asked = cond (begins row asked) Begins (cond (before row asked) Before After)
+
+-- how far along a list in order a standing is met: first those before, then those that begin so, then those after
+abbrev pub along : Standing → ℕ
+along Before = 0
+along Begins = 1
+along After = 2

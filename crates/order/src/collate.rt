@@ -12,7 +12,7 @@ use std::cmp::Ordering;
 use table::Table;
 
 // Where a name's first row stands to the first row of what is asked.
-#[derive(Clone, Copy, PartialEq, Eq, Debug)]
+#[derive(Clone, Copy, PartialEq, Eq, PartialOrd, Ord, Debug)]
 pub enum Standing {
     // Before it.
     Before,

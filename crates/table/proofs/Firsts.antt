@@ -34,3 +34,18 @@ module _ (test : ℕ → Bool) where
       first_place test n ≡ r
   looked_through n None h = none_below n (λ k l. h k (omega arith) l)
   looked_through n (Some i) h = first_is i (none_below i (λ k l. h.3 k (omega arith) l)) h.2 n h.1
+
+  pub first_below : (n k : ℕ) → first_place test n ≡ Some k → k < n
+  unfolding first_place
+  first_below zero k e = grind arith
+  first_below (suc n) k e = let ih = first_below n k in grind arith
+
+  pub first_passes : (n k : ℕ) → first_place test n ≡ Some k → test k ≡ true
+  unfolding first_place
+  first_passes zero k e = grind arith
+  first_passes (suc n) k e = let ih = first_passes n k in grind arith
+
+  pub first_least : (n k : ℕ) → first_place test n ≡ Some k → (j : ℕ) → j < k → test j ≡ false
+  unfolding first_place
+  first_least zero k e j l = grind arith
+  first_least (suc n) k e j l = let ih = first_least n k in let b = first_below (suc n) k e in let q = none_at n in grind arith

@@ -13,7 +13,7 @@ use Rattle.table.specs.Meaning.{pairs_of, rules_of}
 use Rattle.table.specs.Numbers.{first_at, second_at, pair_at, place_in}
 use Rattle.table.specs.Refusals.{first_place, foreign, repeated, refusal_of}
 use Rattle.table.specs.Rules.{joins_in, weighs_in, weights_of}
-use Rattle.table.proofs.Firsts.{none_at, none_below}
+use Rattle.table.proofs.Firsts.{first_below, first_least, first_passes, none_at, none_below}
 use Rattle.table.proofs.Growing.{refusal_more}
 use Rattle.table.proofs.Places.{place_below, first_known, nth_none, nth_pair, second_known}
 use Rattle.table.proofs.Refusing.{sound, no_refusal, some_or_none, by_refusal}
@@ -53,28 +53,6 @@ from_known ps k h = or_from _ _ (le-ltb 255 (first_at ps k) (omega (arith, h.0))
 
 foreign_from : (ps : List ℕ) (k : ℕ) → foreign ps k ≡ true → KnownPair ps k → ⊥
 foreign_from ps k e h = true≢false (sym e ∙ from_known ps k h)
-
--- the first place that passes a test
-module _ (test : ℕ → Bool) where
-  first_below : (n k : ℕ) → first_place test n ≡ Some k → k < n
-  unfolding first_place
-  first_below zero k e = grind arith
-  first_below (suc n) k e = let ih = first_below n k in grind arith
-
-  first_passes : (n k : ℕ) → first_place test n ≡ Some k → test k ≡ true
-  unfolding first_place
-  first_passes zero k e = grind arith
-  first_passes (suc n) k e = let ih = first_passes n k in grind arith
-
-  first_least : (n k : ℕ) → first_place test n ≡ Some k → (j : ℕ) → j < k → test j ≡ false
-  unfolding first_place
-  first_least zero k e j l = grind arith
-  first_least (suc n) k e j l =
-      let b = first_below (suc n) k e in
-      ⊎_elim
-      (λ q. let f = rw q.1 at e in first_least n k (q.1 ∙ f) j l)
-      (λ q. none_at test n q j (omega arith))
-      (some_or_none (first_place test n))
 
 pub exactly_tables : ExactlyTables
 exactly_tables ls ps n = (

@@ -1,0 +1,6 @@
+pub mod Listing
+pub mod Order
+pub mod Cutting
+pub mod Entering
+pub mod Keys
+pub mod Arranging

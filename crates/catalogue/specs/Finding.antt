@@ -1,0 +1,70 @@
+-- The part of a list that begins so.
+use Rattle.std.specs.Prelude.{◌≡◌, ℕ, ◌+◌, ◌<◌, ◌≤◌, Bool, true, false, cond, List, [], filter, length, is_none, slice_index_or, slice_range, ◌&&◌, nat_lt, nat_le}
+use Rattle.catalogue.specs.Lists.{Lists, name_at, name_of, names_fault, places_fault}
+use Rattle.keys.specs.Refusals.{name_refusal}
+use Rattle.keys.specs.Rows.{row}
+use Rattle.keys.specs.declared.level.Level.TheVariants.{Primary}
+use Rattle.order.specs.Names.{along, standing}
+use Rattle.order.specs.Rows.{begins}
+use Rattle.order.specs.declared.collate.Standing.{Standing}
+use Rattle.table.specs.Refusals.{refusal_of}
+
+-- the name of a number begins as asked: its first row begins with that of what is asked
+abbrev pub begins_so : Lists → (ask : List ℕ) → (number : ℕ) → Bool
+begins_so l ask i = begins (row Primary l.rules (name_of l.text l.starts i)) (row Primary l.rules ask)
+
+-- of the places below n just those pass the test that are from one on and before another
+pub record Encloses (test : ℕ → Bool) (n from to : ℕ) : Type 0 where
+  pub rises : from ≤ to
+  pub within : to ≤ n
+  pub just : (k : ℕ) → k < n → test k ≡ nat_le from k && nat_lt k to
+
+-- from one place of the list up to another: at just these the names begin as asked
+abbrev pub PlacesFound : Lists → (ask : List ℕ) → (from to : ℕ) → Type 0
+PlacesFound l ask = Encloses (λ k. begins_so l ask (slice_index_or l.places k 0)) (length l.places)
+
+-- the part that begins so: the list from some place on, for its length, and at just these places the names begin as asked
+abbrev pub PartFound : Lists → (ask part : List ℕ) → Type 0
+PartFound l ask part =
+    (from : ℕ) × PlacesFound l ask from (from + length part) × (part ≡ slice_range l.places from (from + length part))
+
+-- the numbers are those of a table
+abbrev pub is_table : (letters joins : List ℕ) → (how_many : ℕ) → Bool
+is_table ls js n = is_none (refusal_of ls js n)
+
+-- the lists are those of a catalogue
+abbrev pub are_listed : Lists → Bool
+are_listed l = is_none (names_fault l.text l.starts) && is_none (places_fault l)
+
+-- what is asked has at most 1,000 letters
+abbrev pub may_ask : List ℕ → Bool
+may_ask ask = is_none (name_refusal ask)
+
+-- where all is as it should be, the part that begins so is handed back; else a part of none
+abbrev pub Found : Bool → Lists → (ask part : List ℕ) → Type 0
+Found true l ask part = PartFound l ask part
+Found false l ask part = part ≡ []
+
+-- where the part is: at these places; at none where not all is as it should be
+abbrev pub FoundAt : Bool → Lists → (ask : List ℕ) → (from to : ℕ) → Type 0
+FoundAt true l ask from to = PlacesFound l ask from to
+FoundAt false l ask from to = (from ≡ 0) × (to ≡ 0)
+
+-- what looking through the whole list gives, where all is as it should be
+abbrev pub looked_through : Bool → Lists → (ask : List ℕ) → List ℕ
+looked_through right l ask = cond right (filter (begins_so l ask) l.places) []
+
+-- where the name at a place stands to what is asked
+abbrev pub standing_at : Lists → (ask : List ℕ) → ℕ → Standing
+standing_at l ask k = standing (row Primary l.rules (name_at l k)) (row Primary l.rules ask)
+
+-- from one place up to another: before the cut the numbers are at most the bound, and from it on they are above
+pub record Cuts (f : ℕ → ℕ) (bound from to cut : ℕ) : Type 0 where
+  pub rises : from ≤ cut
+  pub within : cut ≤ to
+  pub low : (k : ℕ) → from ≤ k → k < cut → f k ≤ bound
+  pub high : (k : ℕ) → cut ≤ k → k < to → bound < f k
+
+-- how far along it stands
+abbrev pub along_at : Lists → (ask : List ℕ) → ℕ → ℕ
+along_at l ask k = along (standing_at l ask k)

@@ -1,0 +1,5 @@
+pub mod Lists
+pub mod Finding
+pub mod Checking
+pub mod Arranging
+pub mod Keying

@@ -1,0 +1,51 @@
+// Finding in lists that are lent and not checked before.
+ghost use Rattle.std.specs.Prelude.{◌≡◌, ◌&&◌};
+ghost use Rattle.catalogue.specs.Finding.{Found, are_listed, is_table, looked_through, may_ask};
+ghost use Rattle.catalogue.specs.Lists.{lists};
+ghost use Rattle.table.specs.Meaning.{rules_of};
+ghost use Rattle.table.specs.Rules.{rules_in};
+
+use crate::view::Catalogue;
+use table::Table;
+
+// The part of a list whose names begin as asked, under a table that is lent as numbers; a part of none where the table, the
+// lists or what is asked are not as they should be. All is checked each time. What it takes are slices and a number, one by
+// one, for callers who know tables by numbers alone.
+pub fn find<'a>(
+    letters: &[u16],
+    joins: &[u16],
+    how_many: u64,
+    text: &[u8],
+    starts: &[u32],
+    places: &'a [u32],
+    ask: &[u8],
+) -> &'a [u32]
+    ensures part { Found (is_table letters.now joins.now how_many && (are_listed (lists (rules_in letters.now joins.now how_many) text.now starts.now places.now) && may_ask ask.now)) (lists (rules_in letters.now joins.now how_many) text.now starts.now places.now) ask.now result.now }
+    ensures looked_through { result.now ≡ looked_through (is_table letters.now joins.now how_many && (are_listed (lists (rules_in letters.now joins.now how_many) text.now starts.now places.now) && may_ask ask.now)) (lists (rules_in letters.now joins.now how_many) text.now starts.now places.now) ask.now }
+{
+    match Table::check(letters, joins, how_many) {
+        Ok(table) => find_under(&table, text, starts, places, ask),
+        Err(_) => &places[..0],
+    }
+}
+
+// The same under a checked table. The lists are checked each time.
+#[tactic(auto, using(crate::proofs::Entering::found_in_lists, crate::proofs::Entering::looked_in_lists))]
+pub fn find_under<'a>(
+    table: &Table,
+    text: &[u8],
+    starts: &[u32],
+    places: &'a [u32],
+    ask: &[u8],
+) -> &'a [u32]
+    ensures part { Found (are_listed (lists (rules_of table.now) text.now starts.now places.now) && may_ask ask.now) (lists (rules_of table.now) text.now starts.now places.now) ask.now result.now }
+    ensures looked_through { result.now ≡ looked_through (are_listed (lists (rules_of table.now) text.now starts.now places.now) && may_ask ask.now) (lists (rules_of table.now) text.now starts.now places.now) ask.now }
+{
+    match Catalogue::check(table, text, starts, places) {
+        Ok(catalogue) => {
+            let range = catalogue.range(ask);
+            &places[range.start..range.end]
+        }
+        Err(_) => &places[..0],
+    }
+}

@@ -1,0 +1,29 @@
+// Why lists are no catalogue, and why a list was not made.
+
+use table::Failure;
+
+#[derive(Clone, Copy, PartialEq, Eq, Debug)]
+pub enum ListFault {
+    // There is no start, not even the end of the text.
+    NoStart,
+    // A start is before the one in front of it: its place.
+    StartFalls(usize),
+    // A name has more than 1,000 letters: its number, and how many.
+    NameTooLong(usize, usize),
+    // The last start is not the end of the text: its place.
+    EndsElsewhere(usize),
+    // A number is no name's: its place in the list.
+    NoSuchName(usize),
+    // A name is before the one in front of it: its place in the list.
+    OutOfOrder(usize),
+}
+
+// There are more names than numbers of 32 bits.
+#[derive(Clone, Copy, PartialEq, Eq, Debug)]
+pub struct TooMany {
+    // How many names.
+    pub names: usize,
+}
+
+// Why names were not put in order.
+pub type OrderError = Failure<TooMany>;

@@ -1,0 +1,90 @@
+// Putting names in order.
+ghost use Rattle.std.specs.Prelude.{◌≡◌, ℕ, ◌+◌, ◌-◌, ◌^◌, ◌<◌, ◌≤◌, IfOk, length, slice_index_or, vec_items};
+ghost use Rattle.table.specs.Meaning.{rules_of};
+ghost use Rattle.keys.specs.Rows.{key};
+
+use crate::fault::{OrderError, TooMany};
+use crate::names::Names;
+use keys::KeyNumbers;
+use std::alloc::{AllocError, Global};
+use table::Table;
+
+// A name's key and its number. Keys decide; of names with the same key the number does.
+#[derive(Clone, Copy, PartialEq, Eq, PartialOrd, Ord)]
+pub(crate) struct Keyed<'k> {
+    key: &'k [u32],
+    number: u32,
+}
+
+impl<'k> Keyed<'k> {
+    ghost use Rattle.catalogue.specs.Keying.{AreKeyed};
+    ghost use Rattle.catalogue.specs.Lists.{name_of};
+
+    // Each of the keys that lie between bounds, beside its number.
+    fn all(numbers: &'k [u32], bounds: &[usize], heap: Global) -> Result<Vec<Keyed<'k>>, AllocError>
+        requires few { length bounds.now ≤ 2 ^ 32 + 1 }
+        requires lie { (i : ℕ) → i + 1 < length bounds.now → (slice_index_or bounds.now i 0 ≤ slice_index_or bounds.now (i + 1) 0) × (slice_index_or bounds.now (i + 1) 0 ≤ length numbers.now) }
+        ensures { IfOk result (λ v. AreKeyed (name_of numbers.now bounds.now) (length bounds.now - 1) v.items) }
+    {
+        let mut keyed = Vec::with_capacity(heap, bounds.len())?;
+        for number in 0..bounds.len().saturating_sub(1) {
+            let key = &numbers[bounds[number]..bounds[number + 1]];
+            keyed.push(Keyed {
+                key,
+                number: number as u32,
+            })?;
+        }
+        Ok(keyed)
+    }
+}
+
+impl Names<'_> {
+    ghost use Rattle.catalogue.specs.Arranging.{Arranged, KeysLie, ListMade};
+    ghost use Rattle.catalogue.specs.Keying.{AreKeyed};
+    ghost use Rattle.catalogue.specs.Lists.{lists, name_of};
+
+    // As many as numbers of 32 bits tell apart.
+    pub const MAX_LISTED: usize = 1 << 32;
+
+    // The numbers of all names in order: by their keys under the table, and of names with the same key as they are numbered.
+    // Each key is worked out once.
+    pub fn in_order(&self, table: &Table, heap: Global) -> Result<Vec<u32>, OrderError>
+        ensures { ListMade (rules_of table.now) self.now.text.now self.now.starts.now vec_items result }
+    {
+        if self.count() > Self::MAX_LISTED {
+            return Err(OrderError::Refused(TooMany {
+                names: self.count(),
+            }));
+        }
+        Ok(self.arrange(table, heap)?)
+    }
+
+    fn arrange(&self, table: &Table, heap: Global) -> Result<Vec<u32>, AllocError>
+        requires { length self.now.starts.now - 1 ≤ 2 ^ 32 }
+        ensures { IfOk result (λ v. Arranged (lists (rules_of table.now) self.now.text.now self.now.starts.now v.items)) }
+    {
+        let (numbers, bounds) = self.keys(table, heap)?;
+        let mut keyed = Keyed::all(&numbers, &bounds, heap)?;
+        keyed.sort_unstable();
+        let mut places = Vec::with_capacity(heap, keyed.len())?;
+        for one in &keyed {
+            places.push(one.number)?;
+        }
+        Ok(places)
+    }
+
+    // All names' keys, one behind the other, and where each begins with the end behind.
+    fn keys(&self, table: &Table, heap: Global) -> Result<(Vec<u32>, Vec<usize>), AllocError>
+        ensures { IfOk result (λ p. KeysLie (λ i. key (rules_of table.now) (name_of self.now.text.now self.now.starts.now i)) (length self.now.starts.now - 1) p.0.items p.1.items) }
+    {
+        let most = self.text.len().saturating_mul(3);
+        let mut numbers = Vec::with_capacity(heap, most.saturating_add(2 * self.count()))?;
+        let mut bounds = Vec::with_capacity(heap, self.count() + 1)?;
+        bounds.push(0)?;
+        for number in 0..self.count() {
+            numbers.extend(KeyNumbers::new(table, self.at(number)))?;
+            bounds.push(numbers.len())?;
+        }
+        Ok((numbers, bounds))
+    }
+}
