@@ -1,9 +1,12 @@
 -- Narrowing down where numbers that don't fall go past a bound, and what stands between two bounds.
-use Rattle.std.proofs.Common.{pred, ◌≡◌, ℕ, zero, suc, ◌+◌, ◌-◌, ◌<◌, ◌≤◌, Bool, true, false, List, [], ◌∷◌, filter, length, slice_index_or, slice_range, nat_le, nat_lt, ◌&&◌, ◌==◌, refl, sym, ◌∙◌, ⊎_elim, arith}
+use Rattle.std.proofs.Common.{pred, ◌≡◌, ℕ, zero, suc, ◌+◌, ◌-◌, ◌<◌, ◌≤◌, Bool, true, false, List, [], ◌∷◌, filter, length, slice_index_or, slice_range, nat_le, nat_lt, ◌&&◌, ◌==◌, refl, sym, ap, ◌∙◌, ⊎_elim, arith}
 use Rattle.std.proofs.lemmas.Bool.{cases_lt}
 use Rattle.std.proofs.lemmas.Bool.Decides.{nat_tests}
 use Rattle.std.proofs.lemmas.List.{length-drop, length-take}
-use Rattle.catalogue.specs.Finding.{Cuts, Encloses, Found, FoundAt, PartFound, PlacesFound, along_at, begins_so, looked_through}
+use Rattle.catalogue.specs.Finding.{Cuts, Encloses, Found, FoundAt, PartFound, PlacesFound, PlacesStand, along_at, begins_so, looked_through, standing_at}
+use Rattle.order.specs.Names.{along}
+use Rattle.order.specs.declared.collate.Standing.{Standing}
+use Rattle.order.specs.declared.collate.Standing.TheVariants.{Before, Begins, After}
 use Rattle.catalogue.specs.Lists.{Lists}
 
 -- What is left to look at is from low up to high: in front of it the numbers are at most one bound, and behind it above the
@@ -46,38 +49,61 @@ cut f bound from to low high s l = record {
   high = λ k p q. s.behind k (omega arith) q;
 }
 
--- the numbers that are 1, where those in front are 0 and those behind more
-module _ (f : ℕ → ℕ) (n : ℕ) where
-  pub none_enclosed : (low high : ℕ) → Narrows f 0 1 0 n low high → high ≤ low → Encloses (λ k. f k == 1) n low low
-  none_enclosed low high s l = record {
+-- how far along says where it stands
+before_is : (s : Standing) → along s ≤ 0 → s ≡ Before
+before_is Before l = refl
+before_is Begins l = absurd (omega arith)
+before_is After l = absurd (omega arith)
+
+begins_is : (s : Standing) → 0 < along s → along s ≤ 1 → s ≡ Begins
+begins_is Before l m = absurd (omega arith)
+begins_is Begins l m = refl
+begins_is After l m = absurd (omega arith)
+
+after_is : (s : Standing) → 1 < along s → s ≡ After
+after_is Before l = absurd (omega arith)
+after_is Begins l = absurd (omega arith)
+after_is After l = refl
+
+-- what is left to look at is nothing; or a name that begins so was met, and the part was cut on both sides of it
+module _ (l : Lists) (ask : List ℕ) where
+  pub parted_at_none : (low high : ℕ) → Narrows (along_at l ask) 0 1 0 (length l.places) low high → high ≤ low → PlacesStand l ask low low
+  parted_at_none low high s e = record {
     rises = omega arith;
     within = let r = s.within in let o = s.ordered in omega arith;
-    just = λ k q. let a = s.front k (omega arith) in let b = s.behind k in grind (arith, nat_tests);
+    front = λ k p. before_is (standing_at l ask k) (s.front k (omega arith) p);
+    part = λ k p q. absurd (omega arith);
+    behind = λ k p q. after_is (standing_at l ask k) (s.behind k (omega arith) q);
   }
 
-  module _ (up : (i j : ℕ) → i ≤ j → j < n → f i ≤ f j) (low high m first behind : ℕ) (s : Narrows f 0 1 0 n low high) (l : low ≤ m) (h : m < high)
-      (e : f m ≡ 1) (c : Cuts f 0 low m first) (d : Cuts f 1 (m + 1) high behind) where
-    in_front : (k : ℕ) → k < first → f k ≤ 0
+  module _ (up : (i j : ℕ) → i ≤ j → j < length l.places → along_at l ask i ≤ along_at l ask j) (low high m first behind : ℕ)
+      (s : Narrows (along_at l ask) 0 1 0 (length l.places) low high) (r : low ≤ m) (h : m < high) (e : along_at l ask m ≡ 1)
+      (c : Cuts (along_at l ask) 0 low m first) (d : Cuts (along_at l ask) 1 (m + 1) high behind) where
+    in_front : (k : ℕ) → k < first → along_at l ask k ≤ 0
     in_front k q = ⊎_elim (λ p. s.front k (omega arith) p) (λ p. c.low k p q) (cases_lt k low)
 
-    at_least : (k : ℕ) → first ≤ k → k < n → 0 < f k
+    at_least : (k : ℕ) → first ≤ k → k < length l.places → 0 < along_at l ask k
     at_least k p q = ⊎_elim (λ r. c.high k p r) (λ r. let u = up m k r q in omega arith) (cases_lt k m)
 
-    at_most : (k : ℕ) → k < behind → f k ≤ 1
+    at_most : (k : ℕ) → k < behind → along_at l ask k ≤ 1
     at_most k q =
         let w = d.within in
         let v = s.within in
         ⊎_elim (λ r. let u = up k m (omega arith) (omega arith) in omega arith) (λ r. d.low k r q) (cases_lt k (m + 1))
 
-    above : (k : ℕ) → behind ≤ k → k < n → 1 < f k
+    above : (k : ℕ) → behind ≤ k → k < length l.places → 1 < along_at l ask k
     above k p q = ⊎_elim (λ r. d.high k p r) (λ r. s.behind k r q) (cases_lt k high)
 
-    pub enclosed : Encloses (λ k. f k == 1) n first behind
-    enclosed = record {
-      rises = let p = c.within in let q = d.rises in omega arith;
-      within = let p = d.within in let q = s.within in omega arith;
-      just = λ k q. let a = in_front k in let b = at_least k in let x = at_most k in let y = above k in grind (arith, nat_tests);
-    }
+    pub parted : PlacesStand l ask first behind
+    parted =
+        let w = d.within in
+        let v = s.within in record {
+          rises = let p = c.within in let q = d.rises in omega arith;
+          within = omega arith;
+          front = λ k p. before_is (standing_at l ask k) (in_front k p);
+          part = λ k p q. begins_is (standing_at l ask k) (at_least k p (omega arith)) (at_most k q);
+          behind = λ k p q. after_is (standing_at l ask k) (above k p q);
+        }
 
 -- the same places behind the first element
 shifted : (test : ℕ → Bool) (x : ℕ) (xs : List ℕ) (from to : ℕ) → Encloses (λ k. test (slice_index_or (x ∷ xs) k 0)) (length (x ∷ xs)) from to →
@@ -125,19 +151,27 @@ pub part_filtered : (l : Lists) (ask part : List ℕ) → PartFound l ask part �
 part_filtered l ask part f = filtered (begins_so l ask) l.places f.0 (f.0 + length part) f.1 ∙ sym f.2
 
 -- a name begins as asked just where it stands so
-begins_along : (l : Lists) (ask : List ℕ) (k : ℕ) → (along_at l ask k == 1) ≡ begins_so l ask (slice_index_or l.places k 0)
+begins_along : (l : Lists) (ask : List ℕ) (k : ℕ) → begins_so l ask (slice_index_or l.places k 0) ≡ (along_at l ask k == 1)
 begins_along l ask k = go (begins_so l ask (slice_index_or l.places k 0)) refl
   where
-    go : (b : Bool) → begins_so l ask (slice_index_or l.places k 0) ≡ b → (along_at l ask k == 1) ≡ b
+    go : (b : Bool) → begins_so l ask (slice_index_or l.places k 0) ≡ b → b ≡ (along_at l ask k == 1)
     go true e = grind (arith, nat_tests)
     go false e = grind (arith, nat_tests)
 
-pub stands_enclosed : (l : Lists) (ask : List ℕ) (from to : ℕ) → Encloses (λ k. along_at l ask k == 1) (length l.places) from to → PlacesFound l ask from to
-stands_enclosed l ask from to e = record { rises = e.rises; within = e.within; just = λ k b. sym (begins_along l ask k) ∙ e.just k b }
+places_found : (l : Lists) (ask : List ℕ) (from to : ℕ) → PlacesStand l ask from to → PlacesFound l ask from to
+places_found l ask from to s = record { rises = s.rises; within = s.within; just = λ k b. begins_along l ask k ∙ just k b }
+  where
+    just : (k : ℕ) → k < length l.places → (along_at l ask k == 1) ≡ nat_le from k && nat_lt k to
+    just k b =
+        let f : k < from → along_at l ask k ≡ 0 = (λ p. ap along (s.front k p)) in
+        let g : from ≤ k → k < to → along_at l ask k ≡ 1 = (λ p q. ap along (s.part k p q)) in
+        let h : to ≤ k → along_at l ask k ≡ 2 = (λ p. ap along (s.behind k p b)) in
+        grind (arith, nat_tests)
 
 -- the part that is where it was found
 pub part_at : (right : Bool) (l : Lists) (ask : List ℕ) (from to : ℕ) → FoundAt right l ask from to → Found right l ask (slice_range l.places from to)
-part_at true l ask from to e =
+part_at true l ask from to s =
+    let e = places_found l ask from to s in
     let w = e.within in
     let r = e.rises in
     let d = length-drop from l.places in

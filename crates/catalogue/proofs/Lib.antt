@@ -4,3 +4,4 @@ pub mod Cutting
 pub mod Entering
 pub mod Keys
 pub mod Arranging
+pub mod Lawful

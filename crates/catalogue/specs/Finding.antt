@@ -7,6 +7,7 @@ use Rattle.keys.specs.declared.level.Level.TheVariants.{Primary}
 use Rattle.order.specs.Names.{along, standing}
 use Rattle.order.specs.Rows.{begins}
 use Rattle.order.specs.declared.collate.Standing.{Standing}
+use Rattle.order.specs.declared.collate.Standing.TheVariants.{Before, Begins, After}
 use Rattle.table.specs.Refusals.{refusal_of}
 
 -- the name of a number begins as asked: its first row begins with that of what is asked
@@ -45,18 +46,28 @@ abbrev pub Found : Bool → Lists → (ask part : List ℕ) → Type 0
 Found true l ask part = PartFound l ask part
 Found false l ask part = part ≡ []
 
--- where the part is: at these places; at none where not all is as it should be
+-- where the name at a place stands to what is asked
+abbrev pub standing_at : Lists → (ask : List ℕ) → ℕ → Standing
+standing_at l ask k = standing (row Primary l.rules (name_at l k)) (row Primary l.rules ask)
+
+-- the names in front of one place are before what is asked, from there up to another they begin so, and from that one on they
+-- are after it
+pub record PlacesStand (l : Lists) (ask : List ℕ) (from to : ℕ) : Type 0 where
+  pub rises : from ≤ to
+  pub within : to ≤ length l.places
+  pub front : (k : ℕ) → k < from → standing_at l ask k ≡ Before
+  pub part : (k : ℕ) → from ≤ k → k < to → standing_at l ask k ≡ Begins
+  pub behind : (k : ℕ) → to ≤ k → k < length l.places → standing_at l ask k ≡ After
+
+-- where the part is: between these places, which say where such names would stand where there is none; at no place where not
+-- all is as it should be
 abbrev pub FoundAt : Bool → Lists → (ask : List ℕ) → (from to : ℕ) → Type 0
-FoundAt true l ask from to = PlacesFound l ask from to
+FoundAt true l ask from to = PlacesStand l ask from to
 FoundAt false l ask from to = (from ≡ 0) × (to ≡ 0)
 
 -- what looking through the whole list gives, where all is as it should be
 abbrev pub looked_through : Bool → Lists → (ask : List ℕ) → List ℕ
 looked_through right l ask = cond right (filter (begins_so l ask) l.places) []
-
--- where the name at a place stands to what is asked
-abbrev pub standing_at : Lists → (ask : List ℕ) → ℕ → Standing
-standing_at l ask k = standing (row Primary l.rules (name_at l k)) (row Primary l.rules ask)
 
 -- from one place up to another: before the cut the numbers are at most the bound, and from it on they are above
 pub record Cuts (f : ℕ → ℕ) (bound from to cut : ℕ) : Type 0 where

@@ -3,3 +3,4 @@ pub mod Finding
 pub mod Checking
 pub mod Arranging
 pub mod Keying
+pub mod Laws

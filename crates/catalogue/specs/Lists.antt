@@ -58,3 +58,12 @@ unfoldable pub places_fault : Lists → Option ListFault
 places_fault l =
     option_or (option_map NoSuchName (first_place (no_such_name l.starts l.places) (length l.places)))
     (option_map OutOfOrder (first_place (out_of_order l) (length l.places)))
+
+-- where a fault is, counted from 0; of a name that is too long its number
+abbrev pub fault_place : ListFault → ℕ
+fault_place NoStart = 0
+fault_place (StartFalls k) = k
+fault_place (NameTooLong i n) = i
+fault_place (EndsElsewhere k) = k
+fault_place (NoSuchName k) = k
+fault_place (OutOfOrder k) = k

@@ -1,4 +1,6 @@
 // Why lists are no catalogue, and why a list was not made.
+ghost use Rattle.std.specs.Prelude.{◌≡◌};
+ghost use Rattle.catalogue.specs.Lists.{fault_place};
 
 use table::Failure;
 
@@ -16,6 +18,22 @@ pub enum ListFault {
     NoSuchName(usize),
     // A name is before the one in front of it: its place in the list.
     OutOfOrder(usize),
+}
+
+impl ListFault {
+    // Where it is, counted from 0; of a name that is too long its number.
+    pub fn place(self) -> usize
+        ensures { result ≡ fault_place self }
+    {
+        match self {
+            ListFault::NoStart => 0,
+            ListFault::StartFalls(k)
+            | ListFault::NameTooLong(k, _)
+            | ListFault::EndsElsewhere(k)
+            | ListFault::NoSuchName(k)
+            | ListFault::OutOfOrder(k) => k,
+        }
+    }
 }
 
 // There are more names than numbers of 32 bits.

@@ -1,5 +1,5 @@
 use Rattle.std.proofs.Common.{rules, length, ◌+◌, ◌-◌, ◌/◌, arith}
-use Rattle.catalogue.proofs.Cutting.{enclosed, past, short, stands_enclosed}
+use Rattle.catalogue.proofs.Cutting.{parted, past, short}
 use Rattle.catalogue.proofs.Order.{rising}
 use Rattle.catalogue.specs.Checking.{lists_of}
 use Rattle.catalogue.proofs.view.Catalogue.range.Goals as goal
@@ -20,6 +20,5 @@ pub returns-in-Begins : goal.returns-in-Begins
 returns-in-Begins c =
     let s = c.args.self.now in
     let up = rising (lists_of s) s.listed c.args.ask.now in
-    let e = enclosed _ (length s.places.now) up _ _ (c.loop-from.from + (c.loop-from.to - c.loop-from.from) / 2) _ _ c.loop-from.invariant (omega arith) (omega arith) (search rules) c.first_behind-first.ensures c.first_behind-behind.ensures in
-    let f = stands_enclosed (lists_of s) c.args.ask.now _ _ e in
+    let f = parted (lists_of s) c.args.ask.now up _ _ (c.loop-from.from + (c.loop-from.to - c.loop-from.from) / 2) _ _ c.loop-from.invariant (omega arith) (omega arith) (search rules) c.first_behind-first.ensures c.first_behind-behind.ensures in
     search rules
