@@ -14,6 +14,7 @@ struct Case(&'static [u8], usize, usize);
 fn all_found(
     rt: &impl Abort,
     heap: Global,
+    table: &Table,
     catalogue: &Catalogue,
     cases: &[Case],
 ) -> Result<(), Fail> {
@@ -25,7 +26,7 @@ fn all_found(
         assert_eq!(rt; catalogue.count(case.0), part.len());
         assert_eq!(rt; catalogue.first(case.0, 2), &part[..part.len().min(2)]);
         assert_eq!(rt; catalogue.first(case.0, 100), part);
-        let looked = filtered(heap, catalogue.table(), catalogue.names(), places, case.0)?;
+        let looked = filtered(heap, table, catalogue.names(), places, case.0)?;
         assert_eq!(rt; part, looked.as_slice());
     }
     Ok(())
@@ -43,6 +44,7 @@ fn valley(rt: HostRuntime) -> Result<(), Fail> {
     all_found(
         &rt,
         rt.alloc(),
+        &table,
         &catalogue,
         &[
             Case(b"c", 0, 5),
@@ -55,7 +57,7 @@ fn valley(rt: HostRuntime) -> Result<(), Fail> {
             Case(b"cad", 3, 4),
             Case(b"cb", 4, 4),
             Case(b"chads", 6, 6),
-            Case(b"c'h", 5, 5),
+            Case(b"c'h", 4, 4),
             Case(b"da", 6, 7),
             Case(b"z", 7, 7),
         ],
@@ -78,6 +80,7 @@ fn some_and_twice(rt: HostRuntime) -> Result<(), Fail> {
     all_found(
         &rt,
         rt.alloc(),
+        &table,
         &catalogue,
         &[
             Case(b"cab", 0, 3),
@@ -98,7 +101,13 @@ fn some_and_twice(rt: HostRuntime) -> Result<(), Fail> {
 fn few(rt: HostRuntime) -> Result<(), Fail> {
     let table = Table::valley();
     let none = Catalogue::check(&table, b"", &[0], &[])?;
-    all_found(&rt, rt.alloc(), &none, &[Case(b"", 0, 0), Case(b"a", 0, 0)])?;
+    all_found(
+        &rt,
+        rt.alloc(),
+        &table,
+        &none,
+        &[Case(b"", 0, 0), Case(b"a", 0, 0)],
+    )?;
     assert_eq!(rt; none.name(0), None);
     assert_eq!(rt; none.names().count(), 0);
 
@@ -106,6 +115,7 @@ fn few(rt: HostRuntime) -> Result<(), Fail> {
     all_found(
         &rt,
         rt.alloc(),
+        &table,
         &unlisted,
         &[Case(b"", 0, 0), Case(b"c", 0, 0)],
     )?;
@@ -115,6 +125,7 @@ fn few(rt: HostRuntime) -> Result<(), Fail> {
     all_found(
         &rt,
         rt.alloc(),
+        &table,
         &one,
         &[
             Case(b"", 0, 1),
@@ -129,6 +140,7 @@ fn few(rt: HostRuntime) -> Result<(), Fail> {
     all_found(
         &rt,
         rt.alloc(),
+        &table,
         &empty,
         &[Case(b"", 0, 1), Case(b"a", 1, 1)],
     )?;
@@ -146,6 +158,7 @@ fn same_key(rt: HostRuntime) -> Result<(), Fail> {
         all_found(
             &rt,
             rt.alloc(),
+            &table,
             &catalogue,
             &[
                 Case(b"", 0, 4),
@@ -183,6 +196,7 @@ fn own_table(rt: HostRuntime) -> Result<(), Fail> {
     all_found(
         &rt,
         rt.alloc(),
+        &table,
         &catalogue,
         &[
             Case(b"m", 0, 9),

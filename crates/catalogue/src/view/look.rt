@@ -5,16 +5,8 @@ ghost use Rattle.catalogue.specs.Lists.{name_at};
 
 use crate::names::Names;
 use crate::view::Catalogue;
-use table::Table;
 
 impl<'a> Catalogue<'a> {
-    // The table that it is in order by.
-    pub fn table(&self) -> &Table<'a>
-        ensures { result.now ≡ self.now.table }
-    {
-        &self.table
-    }
-
     // The list: the numbers of its names, in order.
     pub fn places(&self) -> &'a [u32]
         ensures { result ≡ self.now.places }
