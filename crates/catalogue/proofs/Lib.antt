@@ -5,3 +5,4 @@ pub mod Entering
 pub mod Keys
 pub mod Arranging
 pub mod Lawful
+pub mod Once
