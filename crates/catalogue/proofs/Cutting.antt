@@ -3,7 +3,8 @@ use Rattle.std.proofs.Common.{pred, ◌≡◌, ℕ, zero, suc, ◌+◌, ◌-◌,
 use Rattle.std.proofs.lemmas.Bool.{cases_lt}
 use Rattle.std.proofs.lemmas.Bool.Decides.{nat_tests}
 use Rattle.std.proofs.lemmas.List.{length-drop, length-take}
-use Rattle.catalogue.specs.Finding.{Cuts, Encloses, Found, FoundAt, PartFound, PlacesFound, PlacesStand, along_at, begins_so, looked_through, standing_at}
+use Rattle.catalogue.specs.Cutting.{Cuts, along_at}
+use Rattle.catalogue.specs.Finding.{Encloses, Found, FoundAt, PartFound, PlacesFound, PlacesStand, begins_so, looked_through, standing_at}
 use Rattle.order.specs.Names.{along}
 use Rattle.order.specs.declared.collate.Standing.{Standing}
 use Rattle.order.specs.declared.collate.Standing.TheVariants.{Before, Begins, After}

@@ -12,7 +12,7 @@ use Rattle.order.specs.Names.{name_before}
 use Rattle.table.proofs.Firsts.{none_at}
 use Rattle.table.specs.Refusals.{first_place}
 use Rattle.catalogue.proofs.Listing.{known_at}
-use Rattle.catalogue.specs.Finding.{along_at}
+use Rattle.catalogue.specs.Cutting.{along_at}
 use Rattle.catalogue.specs.Lists.{Lists, name_at, name_of, no_such_name, out_of_order, places_fault}
 
 module _ (l : Lists) (e : places_fault l ≡ None) where

@@ -1,7 +1,7 @@
 -- A list of all names, made by putting them in order.
-use Rattle.std.specs.Prelude.{◌≡◌, ℕ, ◌+◌, ◌-◌, ◌^◌, ◌<◌, ◌≤◌, IsPermutation, List, None, Ok, Err, Result, length, slice_index_or}
+use Rattle.std.specs.Prelude.{◌≡◌, ℕ, ◌-◌, ◌^◌, ◌<◌, ◌≤◌, IsPermutation, List, None, Ok, Err, Result, length, slice_index_or}
 use Rattle.std.specs.List.{range_with_len}
-use Rattle.catalogue.specs.Lists.{Lists, lists, name_at, name_of, places_fault}
+use Rattle.catalogue.specs.Lists.{Lists, lists, name_at, places_fault}
 use Rattle.catalogue.specs.declared.fault.TooMany.{TooMany}
 use Rattle.keys.specs.Rows.{key}
 use Rattle.table.specs.Rules.{Rules}
@@ -20,11 +20,3 @@ abbrev pub ListMade : {V : Type 0} → Rules → (text starts : List ℕ) → (V
 ListMade t text starts items (Ok v) = Arranged (lists t text starts (items v))
 ListMade t text starts items (Err (Refused why)) = (why.names ≡ length starts - 1) × (2 ^ 32 < length starts - 1)
 ListMade t text starts items (Err NoMemory) = length starts - 1 ≤ 2 ^ 32
-
--- Keys of n names, one behind the other, and where each begins with the end behind.
-pub record KeysLie (key_of : ℕ → List ℕ) (n : ℕ) (numbers bounds : List ℕ) : Type 0 where
-  pub count : length bounds ≡ n + 1
-  pub ends : slice_index_or bounds n 0 ≡ length numbers
-  pub rises : (i : ℕ) → i < n → slice_index_or bounds i 0 ≤ slice_index_or bounds (i + 1) 0
-  pub within : (i : ℕ) → i ≤ n → slice_index_or bounds i 0 ≤ length numbers
-  pub each : (i : ℕ) → i < n → name_of numbers bounds i ≡ key_of i

@@ -4,7 +4,7 @@ use Rattle.catalogue.specs.Lists.{Lists, name_at, name_of, names_fault, places_f
 use Rattle.keys.specs.Refusals.{name_refusal}
 use Rattle.keys.specs.Rows.{row}
 use Rattle.keys.specs.declared.level.Level.TheVariants.{Primary}
-use Rattle.order.specs.Names.{along, standing}
+use Rattle.order.specs.Names.{standing}
 use Rattle.order.specs.Rows.{begins}
 use Rattle.order.specs.declared.collate.Standing.{Standing}
 use Rattle.order.specs.declared.collate.Standing.TheVariants.{Before, Begins, After}
@@ -18,7 +18,7 @@ begins_so l ask i = begins (row Primary l.rules (name_of l.text l.starts i)) (ro
 pub record Encloses (test : ℕ → Bool) (n from to : ℕ) : Type 0 where
   pub rises : from ≤ to
   pub within : to ≤ n
-  pub just : (k : ℕ) → k < n → test k ≡ nat_le from k && nat_lt k to
+  pub just : (k : ℕ) → k < n → test k ≡ (nat_le from k && nat_lt k to)
 
 -- from one place of the list up to another: at just these the names begin as asked
 abbrev pub PlacesFound : Lists → (ask : List ℕ) → (from to : ℕ) → Type 0
@@ -68,14 +68,3 @@ FoundAt false l ask from to = (from ≡ 0) × (to ≡ 0)
 -- what looking through the whole list gives, where all is as it should be
 abbrev pub looked_through : Bool → Lists → (ask : List ℕ) → List ℕ
 looked_through right l ask = cond right (filter (begins_so l ask) l.places) []
-
--- from one place up to another: before the cut the numbers are at most the bound, and from it on they are above
-pub record Cuts (f : ℕ → ℕ) (bound from to cut : ℕ) : Type 0 where
-  pub rises : from ≤ cut
-  pub within : cut ≤ to
-  pub low : (k : ℕ) → from ≤ k → k < cut → f k ≤ bound
-  pub high : (k : ℕ) → cut ≤ k → k < to → bound < f k
-
--- how far along it stands
-abbrev pub along_at : Lists → (ask : List ℕ) → ℕ → ℕ
-along_at l ask k = along (standing_at l ask k)

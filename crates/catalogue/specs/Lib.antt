@@ -1,5 +1,6 @@
 pub mod Lists
 pub mod Finding
+pub mod Cutting
 pub mod Checking
 pub mod Arranging
 pub mod Keying

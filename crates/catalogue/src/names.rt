@@ -4,10 +4,9 @@ ghost use Rattle.catalogue.specs.Lists.{falls, letters_of, name_of, names_fault,
 ghost use Rattle.table.specs.Refusals.{first_place};
 
 use crate::fault::ListFault;
+use table::Table;
 
 mod arrange;
-
-use table::Table;
 
 // A text, and where each name begins in it, with the end of the text behind. Both are lent.
 #[derive(Clone, Copy)]

@@ -39,7 +39,8 @@ impl<'k> Keyed<'k> {
 }
 
 impl Names<'_> {
-    ghost use Rattle.catalogue.specs.Arranging.{Arranged, KeysLie, ListMade};
+    ghost use Rattle.catalogue.specs.Keying.{KeysLie};
+    ghost use Rattle.catalogue.specs.Arranging.{Arranged, ListMade};
     ghost use Rattle.catalogue.specs.Keying.{AreKeyed};
     ghost use Rattle.catalogue.specs.Lists.{lists, name_of};
 

@@ -1,7 +1,8 @@
 // Finding the part of a catalogue that begins so.
 ghost use Rattle.std.specs.Prelude.{◌≡◌, ◌<◌, ◌≤◌, length, take};
 ghost use Rattle.catalogue.specs.Checking.{lists_of};
-ghost use Rattle.catalogue.specs.Finding.{Cuts, Found, FoundAt, along_at, looked_through, may_ask, standing_at};
+ghost use Rattle.catalogue.specs.Cutting.{Cuts, along_at};
+ghost use Rattle.catalogue.specs.Finding.{Found, FoundAt, looked_through, may_ask, standing_at};
 ghost use Rattle.order.specs.Names.{along};
 
 use crate::view::Catalogue;

@@ -1,6 +1,6 @@
 use Rattle.keys.specs.Rows.{key}
 use Rattle.table.specs.Meaning.{rules_of}
-use Rattle.catalogue.specs.Arranging.{KeysLie}
+use Rattle.catalogue.specs.Keying.{KeysLie}
 use Rattle.catalogue.specs.Lists.{name_of}
 use Rattle.catalogue.proofs.names.Names.keys.Given as goal
 

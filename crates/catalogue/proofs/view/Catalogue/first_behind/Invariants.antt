@@ -1,7 +1,7 @@
 use Rattle.std.proofs.Common.{◌-◌}
 use Rattle.catalogue.proofs.Cutting.{Narrows}
 use Rattle.catalogue.specs.Checking.{lists_of}
-use Rattle.catalogue.specs.Finding.{along_at}
+use Rattle.catalogue.specs.Cutting.{along_at}
 use Rattle.order.specs.Names.{along}
 use Rattle.catalogue.proofs.view.Catalogue.first_behind.Given as goal
 

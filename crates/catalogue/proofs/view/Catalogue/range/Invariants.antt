@@ -1,7 +1,7 @@
 use Rattle.std.proofs.Common.{◌-◌, length}
 use Rattle.catalogue.proofs.Cutting.{Narrows}
 use Rattle.catalogue.specs.Checking.{lists_of}
-use Rattle.catalogue.specs.Finding.{along_at}
+use Rattle.catalogue.specs.Cutting.{along_at}
 use Rattle.catalogue.proofs.view.Catalogue.range.Given as goal
 
 abbrev pub invariant-loop-from : goal.invariant-loop-from
