@@ -1,12 +1,11 @@
 -- Keys put in order beside their numbers give a list in order.
 use Rattle.std.proofs.Common.{[], ◌∷◌, ◌≡◌, ℕ, zero, suc, ◌+◌, ◌-◌, ◌<◌, ◌≤◌, false, IsPermutation, IsSorted, List, None, eqb, length, slice_index_or, refl, sym, ◌∙◌, arith}
-use Rattle.std.specs.Cmp.{IsTotalOrder}
 use Rattle.std.specs.List.{IsDistinct, range_with_len}
 use Rattle.std.specs.Ordering.{is_lt, nat_cmp, ordering_then}
 use Rattle.std.specs.declared.cmp.Ordering.{Ordering}
 use Rattle.std.specs.declared.cmp.Ordering.TheVariants.{Less, Equal, Greater}
 use Rattle.std.proofs.lemmas.Bool.Decides.{nat_tests}
-use Rattle.std.proofs.lemmas.Cmp.{nat_cmp_total, nat_list_cmp_total, on_total, tied_itself, then_total}
+use Rattle.std.proofs.lemmas.Cmp.{nat_list_cmp_total, tied_itself}
 use Rattle.std.proofs.lemmas.List.{get_or-map, length-map}
 use Rattle.std.proofs.lemmas.List.FromFn.{get_or-range_with_len, length-range_with_len}
 use Rattle.std.proofs.lemmas.List.Sorted.{All-permutation, IsPermutation-map, ranks_by, sorted_far}
@@ -16,17 +15,15 @@ use Rattle.order.specs.Names.{name_order}
 use Rattle.order.specs.Rows.{row_order}
 use Rattle.table.proofs.Firsts.{none_below}
 use Rattle.table.specs.Rules.{Rules}
+use Rattle.catalogue.proofs.Order.{row_then_number, row_then_number_total}
 use Rattle.catalogue.specs.Arranging.{Arranged}
 use Rattle.catalogue.specs.Keying.{AreKeyed, HasKey, numbers_of}
 use Rattle.catalogue.specs.Lists.{lists, name_at, name_of, no_such_name, out_of_order, places_fault}
 use Rattle.catalogue.specs.declared.names.arrange.Keyed.{Keyed}
 
 -- keys decide; of names with the same key the number does
-abbrev pub keyed_order : Keyed → Keyed → Ordering
-keyed_order x y = ordering_then (row_order x.key.now y.key.now) (nat_cmp x.number y.number)
-
-keyed_total : IsTotalOrder keyed_order
-keyed_total = then_total (on_total (λ (k : Keyed). k.key.now) nat_list_cmp_total) (on_total (λ (k : Keyed). k.number) nat_cmp_total)
+abbrev keyed_order : Keyed → Keyed → Ordering
+keyed_order = row_then_number (λ (k : Keyed). k.key.now) (λ (k : Keyed). k.number)
 
 -- numbers from 0 on are all different
 range_distinct : (n : ℕ) → IsDistinct eqb (range_with_len 0 n)
@@ -102,7 +99,7 @@ module _ (t : Rules) (text starts : List ℕ) (ks sorted : List Keyed) (k : AreK
   tied i j l b e =
       let m = many in
       let d = some_of sorted i (omega arith) in
-      let f = sorted_far _ (ranks_by keyed_total (λ (k : Keyed). k)) sorted s i j d (omega arith) (omega arith) in
+      let f = sorted_far _ (ranks_by (row_then_number_total (λ (k : Keyed). k.key.now) (λ (k : Keyed). k.number)) (λ (k : Keyed). k)) sorted s i j d (omega arith) (omega arith) in
       let o = tie_rises (slice_index_or sorted i d) (slice_index_or sorted j d) (key_at i d (omega arith) ∙ (e ∙ sym (key_at j d (omega arith)))) f in
       let a = apart_from_distinct eqb (numbers_of sorted) i j 0 (IsDistinct-IsPermutation eqb flips _ _ all (range_distinct (length starts - 1))) l b in
       let x = number_at i d (omega arith) in

@@ -20,9 +20,6 @@ pub record Narrows (f : ℕ → ℕ) (least most from to low high : ℕ) : Type 
   pub behind : (k : ℕ) → high ≤ k → k < to → most < f k
 
 module _ (f : ℕ → ℕ) (n : ℕ) (up : (i j : ℕ) → i ≤ j → j < n → f i ≤ f j) (least most from to : ℕ) where
-  pub start : from ≤ to → Narrows f least most from to from to
-  start l = record { rises = omega arith; ordered = l; within = omega arith; front = λ k p q. absurd (omega arith); behind = λ k p q. absurd (omega arith) }
-
   module _ (w : to ≤ n) (low high m : ℕ) (s : Narrows f least most from to low high) (l : low ≤ m) (h : m < high) where
     pub past : f m ≤ least → Narrows f least most from to (m + 1) high
     past b = record {
@@ -42,14 +39,6 @@ module _ (f : ℕ → ℕ) (n : ℕ) (up : (i j : ℕ) → i ≤ j → j < n →
       behind = λ k p q. let u = up m k p (omega arith) in omega arith;
     }
 
-pub cut : (f : ℕ → ℕ) (bound from to low high : ℕ) → Narrows f bound bound from to low high → high ≤ low → Cuts f bound from to low
-cut f bound from to low high s l = record {
-  rises = s.rises;
-  within = let r = s.within in let o = s.ordered in omega arith;
-  low = s.front;
-  high = λ k p q. s.behind k (omega arith) q;
-}
-
 -- how far along says where it stands
 before_is : (s : Standing) → along s ≤ 0 → s ≡ Before
 before_is Before l = refl
@@ -66,17 +55,8 @@ after_is Before l = absurd (omega arith)
 after_is Begins l = absurd (omega arith)
 after_is After l = refl
 
--- what is left to look at is nothing; or a name that begins so was met, and the part was cut on both sides of it
+-- a name that begins so was met, and the part was cut on both sides of it
 module _ (l : Lists) (ask : List ℕ) where
-  pub parted_at_none : (low high : ℕ) → Narrows (along_at l ask) 0 1 0 (length l.places) low high → high ≤ low → PlacesStand l ask low low
-  parted_at_none low high s e = record {
-    rises = omega arith;
-    within = let r = s.within in let o = s.ordered in omega arith;
-    front = λ k p. before_is (standing_at l ask k) (s.front k (omega arith) p);
-    part = λ k p q. absurd (omega arith);
-    behind = λ k p q. after_is (standing_at l ask k) (s.behind k (omega arith) q);
-  }
-
   module _ (up : (i j : ℕ) → i ≤ j → j < length l.places → along_at l ask i ≤ along_at l ask j) (low high m first behind : ℕ)
       (s : Narrows (along_at l ask) 0 1 0 (length l.places) low high) (r : low ≤ m) (h : m < high) (e : along_at l ask m ≡ 1)
       (c : Cuts (along_at l ask) 0 low m first) (d : Cuts (along_at l ask) 1 (m + 1) high behind) where

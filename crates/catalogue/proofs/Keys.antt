@@ -1,5 +1,5 @@
 -- Keys that lie one behind the other, and keys beside their numbers.
-use Rattle.std.proofs.Common.{◌≡◌, ℕ, zero, suc, ◌+◌, ◌-◌, ◌≤◌, List, [], ◌∷◌, ◌++◌, length, drop, slice_index_or, slice_range, refl, sym, ap, ◌∙◌, ⊎_elim, arith}
+use Rattle.std.proofs.Common.{◌≡◌, ℕ, ◌+◌, ◌-◌, ◌≤◌, List, [], ◌∷◌, ◌++◌, length, drop, slice_index_or, slice_range, sym, ap, ◌∙◌, ⊎_elim, arith}
 use Rattle.std.proofs.lemmas.Bool.{cases_lt}
 use Rattle.std.proofs.lemmas.List.{drop-append-le, get_or_append_left, length-append, length-drop, map-append, length-map, get_or-map, map-id, take-append-le}
 use Rattle.std.proofs.lemmas.List.Elements.{All-push}
@@ -24,13 +24,6 @@ part_behind xs ys a b e f =
     rw (m, e, drop-append_seam xs ys) (take-length ys)
 
 module _ (key_of : ℕ → List ℕ) where
-  pub no_keys : KeysLie key_of 0 [] (0 ∷ [])
-  no_keys = record { count = refl; ends = refl; rises = λ i l. absurd (omega arith); within = λ i l. none i (omega arith); each = λ i l. absurd (omega arith) }
-    where
-      none : (i : ℕ) → i ≤ 0 → slice_index_or (0 ∷ []) i 0 ≤ 0
-      none zero l = omega arith
-      none (suc i) l = absurd (omega arith)
-
   module _ (n : ℕ) (numbers bounds : List ℕ) (k : KeysLie key_of n numbers bounds) where
     old : (i : ℕ) → i ≤ n → slice_index_or (bounds ++ length (numbers ++ key_of n) ∷ []) i 0 ≡ slice_index_or bounds i 0
     old i l = let c = k.count in get_or_append_left bounds (length (numbers ++ key_of n) ∷ []) 0 i (omega arith)

@@ -9,13 +9,13 @@ use Rattle.std.specs.List.{AllWithin, HoldsAt}
 use Rattle.std.specs.Ordering.{is_lt}
 
 -- nothing is wrong: each part of the check finds nothing
-pub record Sound (text starts : List ℕ) : Type 0 where
+record Sound (text starts : List ℕ) : Type 0 where
   pub some : 0 < length starts
   pub none_falls : first_place (falls starts) (length starts) ≡ None
   pub none_too_long : first_place (too_long starts) (length starts - 1) ≡ None
   pub ends : slice_index_or starts (length starts - 1) 0 ≡ length text
 
-pub sound : (text starts : List ℕ) → names_fault text starts ≡ None → Sound text starts
+sound : (text starts : List ℕ) → names_fault text starts ≡ None → Sound text starts
 unfolding names_fault
 sound text starts e = record {
   some = grind (arith, nat_tests);

@@ -2,11 +2,11 @@
 use Rattle.std.proofs.Common.{◌≡◌, ℕ, zero, suc, ◌+◌, ◌<◌, Bool, true, false, IsPermutation, List, [], ◌∷◌, cond, length, slice_index_or, refl, sym, ap, ◌∙◌, arith}
 use Rattle.std.specs.Cmp.{IsTotalOrder}
 use Rattle.std.specs.List.{count_by}
-use Rattle.std.specs.Ordering.{is_lt, nat_cmp, ordering_then}
+use Rattle.std.specs.Ordering.{is_lt, nat_cmp}
 use Rattle.std.specs.declared.cmp.Ordering.{Ordering}
 use Rattle.std.specs.declared.cmp.Ordering.TheVariants.{Less, Equal, Greater}
 use Rattle.std.proofs.lemmas.Bool.Decides.{nat_tests}
-use Rattle.std.proofs.lemmas.Cmp.{nat_cmp_total, nat_list_cmp_total, on_total, then_total}
+use Rattle.std.proofs.lemmas.Cmp.{nat_list_cmp_total}
 use Rattle.std.proofs.lemmas.List.{ext_get_or, get_or_default}
 use Rattle.std.proofs.lemmas.List.Elements.{Contains-get_or}
 use Rattle.std.proofs.lemmas.List.Sums.{sum_by-cons}
@@ -15,14 +15,14 @@ use Rattle.keys.specs.Rows.{key}
 use Rattle.order.proofs.Rows.{alike_are_same}
 use Rattle.order.specs.Names.{name_order}
 use Rattle.table.specs.Rules.{Rules}
-use Rattle.catalogue.proofs.Order.{in_order}
+use Rattle.catalogue.proofs.Order.{in_order, row_then_number, row_then_number_total}
 use Rattle.catalogue.specs.Arranging.{Arranged}
 use Rattle.catalogue.specs.Laws.{OneList}
 use Rattle.catalogue.specs.Lists.{lists, name_at, name_of}
 
 module _ (less : ℕ → ℕ → Bool) (one_way : (x y : ℕ) → less x y ≡ true → less y x ≡ false) where
   -- each is less than every later one
-  abbrev pub Rises : List ℕ → Type 0
+  abbrev Rises : List ℕ → Type 0
   Rises xs = (i j : ℕ) → i < j → j < length xs → less (slice_index_or xs i 0) (slice_index_or xs j 0) ≡ true
 
   none_less : (x : ℕ) (xs : List ℕ) → ((k : ℕ) → k < length xs → less (slice_index_or xs k 0) x ≡ false) → count_by (λ q. less q x) xs ≡ 0
@@ -68,10 +68,10 @@ module _ (less : ℕ → ℕ → Bool) (one_way : (x y : ℕ) → less x y ≡ t
 module _ (t : Rules) (text starts : List ℕ) where
   -- keys decide; of names with the same key the number does
   abbrev number_order : ℕ → ℕ → Ordering
-  number_order i j = ordering_then (name_order t (name_of text starts i) (name_of text starts j)) (nat_cmp i j)
+  number_order = row_then_number (λ i. key t (name_of text starts i)) (λ i. i)
 
   number_total : IsTotalOrder number_order
-  number_total = then_total (on_total (λ (i : ℕ). key t (name_of text starts i)) nat_list_cmp_total) nat_cmp_total
+  number_total = row_then_number_total (λ i. key t (name_of text starts i)) (λ i. i)
 
   arranged_rises : (places : List ℕ) → Arranged (lists t text starts places) → Rises (λ i j. is_lt (number_order i j)) (ranks_by number_total (λ (i : ℕ). i)).one_way places
   arranged_rises places a i j l m = go (name_order t (name_at (lists t text starts places) i) (name_at (lists t text starts places) j)) refl

@@ -1,7 +1,10 @@
 -- What a list in order says of any two of its places.
 use Rattle.std.proofs.Common.{◌≡◌, ℕ, ◌+◌, ◌<◌, ◌≤◌, false, None, List, length, slice_index_or, arith}
 use Rattle.std.proofs.lemmas.Bool.Decides.{nat_tests}
-use Rattle.std.proofs.lemmas.Cmp.{nat_list_cmp_total}
+use Rattle.std.specs.Cmp.{IsTotalOrder}
+use Rattle.std.specs.Ordering.{nat_cmp, ordering_then}
+use Rattle.std.specs.declared.cmp.Ordering.{Ordering}
+use Rattle.std.proofs.lemmas.Cmp.{nat_cmp_total, nat_list_cmp_total, on_total, then_total}
 use Rattle.std.proofs.lemmas.List.{get_or_default}
 use Rattle.std.proofs.lemmas.List.Sorted.{ranks_by, sorted_far}
 use Rattle.keys.specs.Rows.{key, row}
@@ -9,6 +12,7 @@ use Rattle.keys.specs.declared.level.Level.TheVariants.{Primary}
 use Rattle.order.proofs.Names.{first_rows}
 use Rattle.order.proofs.Rows.{standings_rise}
 use Rattle.order.specs.Names.{name_before}
+use Rattle.order.specs.Rows.{row_order}
 use Rattle.table.proofs.Firsts.{none_at}
 use Rattle.table.specs.Refusals.{first_place}
 use Rattle.catalogue.proofs.Listing.{known_at}
@@ -40,3 +44,10 @@ module _ (l : Lists) (e : places_fault l ≡ None) where
   rising ask i j m b =
       standings_rise (row Primary l.rules ask) (row Primary l.rules (name_at l i)) (row Primary l.rules (name_at l j))
       (first_rows l.rules (name_at l j) (name_at l i) (in_order i j m b))
+
+-- by one row of numbers, and where these are the same by a number
+abbrev pub row_then_number : {X : Type 0} → (X → List ℕ) → (X → ℕ) → X → X → Ordering
+row_then_number k n x y = ordering_then (row_order (k x) (k y)) (nat_cmp (n x) (n y))
+
+pub row_then_number_total : {X : Type 0} (k : X → List ℕ) (n : X → ℕ) → IsTotalOrder (row_then_number k n)
+row_then_number_total k n = then_total (on_total k nat_list_cmp_total) (on_total n nat_cmp_total)

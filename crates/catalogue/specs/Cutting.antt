@@ -11,6 +11,6 @@ pub record Cuts (f : ℕ → ℕ) (bound from to cut : ℕ) : Type 0 where
   pub low : (k : ℕ) → from ≤ k → k < cut → f k ≤ bound
   pub high : (k : ℕ) → cut ≤ k → k < to → bound < f k
 
--- how far along it stands
+-- how far along the name at a place stands
 abbrev pub along_at : Lists → (ask : List ℕ) → ℕ → ℕ
 along_at l ask k = along (standing_at l ask k)

@@ -1,6 +1,6 @@
 -- The part of a list that begins so.
 use Rattle.std.specs.Prelude.{◌≡◌, ℕ, ◌+◌, ◌<◌, ◌≤◌, Bool, true, false, cond, List, [], filter, length, is_none, slice_index_or, slice_range, ◌&&◌, nat_lt, nat_le}
-use Rattle.catalogue.specs.Lists.{Lists, name_at, name_of, names_fault, places_fault}
+use Rattle.catalogue.specs.Lists.{Lists, name_at, name_of}
 use Rattle.keys.specs.Refusals.{name_refusal}
 use Rattle.keys.specs.Rows.{row}
 use Rattle.keys.specs.declared.level.Level.TheVariants.{Primary}
@@ -8,13 +8,12 @@ use Rattle.order.specs.Names.{standing}
 use Rattle.order.specs.Rows.{begins}
 use Rattle.order.specs.declared.collate.Standing.{Standing}
 use Rattle.order.specs.declared.collate.Standing.TheVariants.{Before, Begins, After}
-use Rattle.table.specs.Refusals.{refusal_of}
 
 -- the name of a number begins as asked: its first row begins with that of what is asked
 abbrev pub begins_so : Lists → (ask : List ℕ) → (number : ℕ) → Bool
 begins_so l ask i = begins (row Primary l.rules (name_of l.text l.starts i)) (row Primary l.rules ask)
 
--- of the places below n just those pass the test that are from one on and before another
+-- of the places below n, those that pass the test are just those from one on and before another
 pub record Encloses (test : ℕ → Bool) (n from to : ℕ) : Type 0 where
   pub rises : from ≤ to
   pub within : to ≤ n
@@ -28,14 +27,6 @@ PlacesFound l ask = Encloses (λ k. begins_so l ask (slice_index_or l.places k 0
 abbrev pub PartFound : Lists → (ask part : List ℕ) → Type 0
 PartFound l ask part =
     (from : ℕ) × PlacesFound l ask from (from + length part) × (part ≡ slice_range l.places from (from + length part))
-
--- the numbers are those of a table
-abbrev pub is_table : (letters joins : List ℕ) → (how_many : ℕ) → Bool
-is_table ls js n = is_none (refusal_of ls js n)
-
--- the lists are those of a catalogue
-abbrev pub are_listed : Lists → Bool
-are_listed l = is_none (names_fault l.text l.starts) && is_none (places_fault l)
 
 -- what is asked has at most 1,000 letters
 abbrev pub may_ask : List ℕ → Bool
@@ -59,12 +50,12 @@ pub record PlacesStand (l : Lists) (ask : List ℕ) (from to : ℕ) : Type 0 whe
   pub part : (k : ℕ) → from ≤ k → k < to → standing_at l ask k ≡ Begins
   pub behind : (k : ℕ) → to ≤ k → k < length l.places → standing_at l ask k ≡ After
 
--- where the part is: between these places, which say where such names would stand where there is none; at no place where not
--- all is as it should be
+-- where the part is: from one place up to another, which say where such names would stand where there is none; from 0 up to 0
+-- where not all is as it should be
 abbrev pub FoundAt : Bool → Lists → (ask : List ℕ) → (from to : ℕ) → Type 0
 FoundAt true l ask from to = PlacesStand l ask from to
 FoundAt false l ask from to = (from ≡ 0) × (to ≡ 0)
 
--- what looking through the whole list gives, where all is as it should be
+-- what looking through the whole list gives, where all is as it should be; else nothing
 abbrev pub looked_through : Bool → Lists → (ask : List ℕ) → List ℕ
 looked_through right l ask = cond right (filter (begins_so l ask) l.places) []

@@ -4,7 +4,7 @@ use Rattle.std.specs.List.{range_with_len}
 use Rattle.catalogue.specs.Lists.{name_of}
 use Rattle.catalogue.specs.declared.names.arrange.Keyed.{Keyed}
 
--- Keys of n names, one behind the other, and where each begins with the end behind.
+-- Keys of n names, one behind the other, and where each begins, with the end behind.
 pub record KeysLie (key_of : ℕ → List ℕ) (n : ℕ) (numbers bounds : List ℕ) : Type 0 where
   pub count : length bounds ≡ n + 1
   pub ends : slice_index_or bounds n 0 ≡ length numbers

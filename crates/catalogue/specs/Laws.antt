@@ -12,7 +12,8 @@ use Rattle.table.specs.Rules.{Rules}
 abbrev pub names_of : Lists → List (List ℕ)
 names_of l = map (name_of l.text l.starts) l.places
 
--- where of any two neighbours the later is not before the earlier, of any two names the later is not
+-- in a list with which nothing is wrong, so that of any two neighbours the later is not before the earlier, of any two names
+-- the later is not before the earlier
 abbrev pub Throughout : Type 0
 Throughout = (l : Lists) → places_fault l ≡ None → InOrder l.rules (names_of l)
 

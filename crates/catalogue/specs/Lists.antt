@@ -33,7 +33,7 @@ letters_of starts i = slice_index_or starts (i + 1) 0 - slice_index_or starts i 
 abbrev pub falls : (starts : List ℕ) → ℕ → Bool
 falls starts k = nat_lt 0 k && nat_lt (slice_index_or starts k 0) (slice_index_or starts (k - 1) 0)
 
--- a name has more than 1,000 letters
+-- by its starts the name of a number has more than 1,000 letters
 abbrev pub too_long : (starts : List ℕ) → (number : ℕ) → Bool
 too_long starts i = nat_lt 1000 (letters_of starts i)
 

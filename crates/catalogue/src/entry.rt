@@ -1,9 +1,7 @@
 // Finding in lists that are lent and not checked before.
-ghost use Rattle.std.specs.Prelude.{◌≡◌, ◌&&◌};
-ghost use Rattle.catalogue.specs.Finding.{Found, are_listed, is_table, looked_through, may_ask};
+ghost use Rattle.catalogue.specs.Entry.{FindSays, FindsUnder};
 ghost use Rattle.catalogue.specs.Lists.{lists};
 ghost use Rattle.table.specs.Meaning.{rules_of};
-ghost use Rattle.table.specs.Rules.{rules_in};
 
 use crate::view::Catalogue;
 use table::Table;
@@ -20,8 +18,7 @@ pub fn find<'a>(
     places: &'a [u32],
     ask: &[u8],
 ) -> &'a [u32]
-    ensures part { Found (is_table letters.now joins.now how_many && (are_listed (lists (rules_in letters.now joins.now how_many) text.now starts.now places.now) && may_ask ask.now)) (lists (rules_in letters.now joins.now how_many) text.now starts.now places.now) ask.now result.now }
-    ensures looked_through { result.now ≡ looked_through (is_table letters.now joins.now how_many && (are_listed (lists (rules_in letters.now joins.now how_many) text.now starts.now places.now) && may_ask ask.now)) (lists (rules_in letters.now joins.now how_many) text.now starts.now places.now) ask.now }
+    ensures { FindSays letters.now joins.now how_many text.now starts.now places.now ask.now result.now }
 {
     match Table::check(letters, joins, how_many) {
         Ok(table) => find_under(&table, text, starts, places, ask),
@@ -30,7 +27,6 @@ pub fn find<'a>(
 }
 
 // The same under a checked table. The lists are checked each time.
-#[tactic(auto, using(crate::proofs::Entering::found_in_lists, crate::proofs::Entering::looked_in_lists))]
 pub fn find_under<'a>(
     table: &Table,
     text: &[u8],
@@ -38,14 +34,11 @@ pub fn find_under<'a>(
     places: &'a [u32],
     ask: &[u8],
 ) -> &'a [u32]
-    ensures part { Found (are_listed (lists (rules_of table.now) text.now starts.now places.now) && may_ask ask.now) (lists (rules_of table.now) text.now starts.now places.now) ask.now result.now }
-    ensures looked_through { result.now ≡ looked_through (are_listed (lists (rules_of table.now) text.now starts.now places.now) && may_ask ask.now) (lists (rules_of table.now) text.now starts.now places.now) ask.now }
+    ensures { FindsUnder (lists (rules_of table.now) text.now starts.now places.now) ask.now result.now }
 {
-    match Catalogue::check(table, text, starts, places) {
-        Ok(catalogue) => {
-            let range = catalogue.range(ask);
-            &places[range.start..range.end]
-        }
-        Err(_) => &places[..0],
-    }
+    let Ok(catalogue) = Catalogue::check(table, text, starts, places) else {
+        return &places[..0];
+    };
+    let range = catalogue.range(ask);
+    &places[range.start..range.end]
 }

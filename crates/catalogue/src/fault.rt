@@ -10,7 +10,7 @@ pub enum ListFault {
     NoStart,
     // A start is before the one in front of it: its place.
     StartFalls(usize),
-    // A name has more than 1,000 letters: its number, and how many.
+    // By its starts a name has more than 1,000 letters: its number, and how many.
     NameTooLong(usize, usize),
     // The last start is not the end of the text: its place.
     EndsElsewhere(usize),

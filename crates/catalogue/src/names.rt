@@ -1,5 +1,5 @@
 // Names in a text, one behind the other.
-ghost use Rattle.std.specs.Prelude.{◌≡◌, ◌+◌, ◌-◌, ◌<◌, None, Some, cond, length, nat_lt};
+ghost use Rattle.std.specs.Prelude.{◌≡◌, ◌+◌, ◌-◌, ◌<◌, None, length};
 ghost use Rattle.catalogue.specs.Lists.{falls, letters_of, name_of, names_fault, too_long};
 ghost use Rattle.table.specs.Refusals.{first_place};
 

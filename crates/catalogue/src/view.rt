@@ -9,7 +9,7 @@ mod check;
 mod find;
 mod look;
 
-// All names one behind the other, where each begins with the end of the text behind, and a list of names' numbers that is in
+// All names one behind the other, where each begins, with the end of the text behind, and a list of names' numbers that is in
 // order under the table; it may have some only, or some twice. That a view exists says that its lists would pass the check:
 // its ghost fields are what the check finds.
 #[derive(Clone, Copy)]

@@ -24,7 +24,7 @@ fn all_found(
         assert_eq!(rt; places.get(case.1..case.2), Some(part));
         assert_eq!(rt; catalogue.range(case.0), case.1..case.2);
         assert_eq!(rt; catalogue.count(case.0), part.len());
-        assert_eq!(rt; catalogue.first(case.0, 2), &part[..part.len().min(2)]);
+        assert_eq!(rt; catalogue.first(case.0, part.len()), part);
         assert_eq!(rt; catalogue.first(case.0, 100), part);
         let looked = filtered(heap, table, catalogue.names(), places, case.0)?;
         assert_eq!(rt; part, looked.as_slice());
@@ -62,6 +62,10 @@ fn valley(rt: HostRuntime) -> Result<(), Fail> {
             Case(b"z", 7, 7),
         ],
     )?;
+    assert_eq!(rt; catalogue.first(b"cab", 0), [].as_slice());
+    assert_eq!(rt; catalogue.first(b"cab", 1), [0].as_slice());
+    assert_eq!(rt; catalogue.first(b"cab", 2), [0, 1].as_slice());
+    assert_eq!(rt; catalogue.first(b"cad", 2), [3].as_slice());
     assert_eq!(rt; catalogue.name(5), Some(b"chad".as_slice()));
     assert_eq!(rt; catalogue.name(7), None);
     assert_eq!(rt; catalogue.names().name(6), Some(b"da".as_slice()));
@@ -172,7 +176,7 @@ fn same_key(rt: HostRuntime) -> Result<(), Fail> {
     Ok(())
 }
 
-// A table on which letters count on the first level only or never there, and a pair stands between its letters.
+// A table under which letters count on the first level only or never there, and a pair stands between its letters.
 #[test]
 fn own_table(rt: HostRuntime) -> Result<(), Fail> {
     let mut own = TableBuf::new(rt.alloc())?;

@@ -1,5 +1,5 @@
 // Putting names in order.
-ghost use Rattle.std.specs.Prelude.{◌≡◌, ℕ, ◌+◌, ◌-◌, ◌^◌, ◌<◌, ◌≤◌, IfOk, length, slice_index_or, vec_items};
+ghost use Rattle.std.specs.Prelude.{ℕ, ◌+◌, ◌-◌, ◌^◌, ◌<◌, ◌≤◌, IfOk, length, slice_index_or, vec_items};
 ghost use Rattle.table.specs.Meaning.{rules_of};
 ghost use Rattle.keys.specs.Rows.{key};
 
@@ -11,7 +11,7 @@ use table::Table;
 
 // A name's key and its number. Keys decide; of names with the same key the number does.
 #[derive(Clone, Copy, PartialEq, Eq, PartialOrd, Ord)]
-pub(crate) struct Keyed<'k> {
+struct Keyed<'k> {
     key: &'k [u32],
     number: u32,
 }
@@ -39,9 +39,8 @@ impl<'k> Keyed<'k> {
 }
 
 impl Names<'_> {
-    ghost use Rattle.catalogue.specs.Keying.{KeysLie};
     ghost use Rattle.catalogue.specs.Arranging.{Arranged, ListMade};
-    ghost use Rattle.catalogue.specs.Keying.{AreKeyed};
+    ghost use Rattle.catalogue.specs.Keying.{KeysLie};
     ghost use Rattle.catalogue.specs.Lists.{lists, name_of};
 
     // As many as numbers of 32 bits tell apart.
@@ -74,7 +73,7 @@ impl Names<'_> {
         Ok(places)
     }
 
-    // All names' keys, one behind the other, and where each begins with the end behind.
+    // All names' keys, one behind the other, and where each begins, with the end behind.
     fn keys(&self, table: &Table, heap: Global) -> Result<(Vec<u32>, Vec<usize>), AllocError>
         ensures { IfOk result (λ p. KeysLie (λ i. key (rules_of table.now) (name_of self.now.text.now self.now.starts.now i)) (length self.now.starts.now - 1) p.0.items p.1.items) }
     {

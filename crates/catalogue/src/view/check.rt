@@ -1,5 +1,5 @@
 // Checking lent lists as a catalogue.
-ghost use Rattle.std.specs.Prelude.{◌≡◌, ◌<◌, None, length};
+ghost use Rattle.std.specs.Prelude.{◌≡◌, None, length};
 ghost use Rattle.catalogue.specs.Checking.{ListsChecked};
 ghost use Rattle.catalogue.specs.Lists.{lists, no_such_name, out_of_order};
 ghost use Rattle.table.specs.Meaning.{rules_of};

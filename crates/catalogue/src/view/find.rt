@@ -21,7 +21,7 @@ impl<'a> Catalogue<'a> {
         &self.places[range.start..range.end]
     }
 
-    // How many names begin so.
+    // How long this part is.
     #[tactic(auto, using(crate::proofs::Cutting::through))]
     pub fn count(&self, ask: &[u8]) -> usize
         ensures { result ≡ length (looked_through (may_ask ask.now) (lists_of self.now) ask.now) }
@@ -37,7 +37,8 @@ impl<'a> Catalogue<'a> {
         &part[..part.len().min(n)]
     }
 
-    // Where this part is in the list.
+    // Where this part is in the list, or would be if there is none; from 0 up to 0 where what is asked has more than 1,000
+    // letters.
     pub fn range(&self, ask: &[u8]) -> Range<usize>
         ensures { FoundAt (may_ask ask.now) (lists_of self.now) ask.now result.start result.end }
     {
@@ -61,7 +62,7 @@ impl<'a> Catalogue<'a> {
         from..from
     }
 
-    // The first place from one on, before another, whose name stands further along than so; the end, where none before it does.
+    // The first place from one on and before another whose name stands further along than so; else the other.
     fn first_behind(&self, so: Standing, from: usize, to: usize, ask: &[u8]) -> usize
         requires { (from ≤ to) × (to ≤ length self.now.places.now) }
         ensures { Cuts (along_at (lists_of self.now) ask.now) (along so) from to result }

@@ -1,5 +1,5 @@
 // Looking into a catalogue.
-ghost use Rattle.std.specs.Prelude.{◌≡◌, ◌<◌, None, Some, length};
+ghost use Rattle.std.specs.Prelude.{◌≡◌, ◌<◌, length};
 ghost use Rattle.catalogue.specs.Checking.{NameAt, lists_of};
 ghost use Rattle.catalogue.specs.Lists.{name_at};
 
@@ -21,7 +21,7 @@ impl<'a> Catalogue<'a> {
         Names::new(self.text, self.starts)
     }
 
-    // The name at a place of the list, if there is one. It is a part from the middle of the text.
+    // The name at a place of the list, if there is one. It is a part of the text, not a copy.
     pub fn name(&self, place: usize) -> Option<&'a [u8]>
         ensures { NameAt (lists_of self.now) place result }
     {
