@@ -11,7 +11,7 @@ use keys::{Level, Row};
 use std::cmp::Ordering;
 use table::Table;
 
-// Where a name's first row stands to the first row of what is asked.
+// Where a name's first row stands to the first row of what is asked, in the order in which a list in order meets them.
 #[derive(Clone, Copy, PartialEq, Eq, PartialOrd, Ord, Debug)]
 pub enum Standing {
     // Before it.
