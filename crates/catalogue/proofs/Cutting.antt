@@ -19,25 +19,25 @@ pub record Narrows (f : ℕ → ℕ) (least most from to low high : ℕ) : Type 
   pub front : (k : ℕ) → from ≤ k → k < low → f k ≤ least
   pub behind : (k : ℕ) → high ≤ k → k < to → most < f k
 
-module _ (f : ℕ → ℕ) (n : ℕ) (up : (i j : ℕ) → i ≤ j → j < n → f i ≤ f j) (least most from to : ℕ) where
-  module _ (w : to ≤ n) (low high m : ℕ) (s : Narrows f least most from to low high) (l : low ≤ m) (h : m < high) where
-    pub past : f m ≤ least → Narrows f least most from to (m + 1) high
-    past b = record {
-      rises = let r = s.rises in omega arith;
-      ordered = omega arith;
-      within = s.within;
-      front = λ k p q. let r = s.within in let u = up k m (omega arith) (omega arith) in omega arith;
-      behind = s.behind;
-    }
+module _ (f : ℕ → ℕ) (n : ℕ) (up : (i j : ℕ) → i ≤ j → j < n → f i ≤ f j) (least most from to : ℕ)
+    (w : to ≤ n) (low high m : ℕ) (s : Narrows f least most from to low high) (l : low ≤ m) (h : m < high) where
+  pub past : f m ≤ least → Narrows f least most from to (m + 1) high
+  past b = record {
+    rises = let r = s.rises in omega arith;
+    ordered = omega arith;
+    within = s.within;
+    front = λ k p q. let r = s.within in let u = up k m (omega arith) (omega arith) in omega arith;
+    behind = s.behind;
+  }
 
-    pub short : most < f m → Narrows f least most from to low m
-    short b = record {
-      rises = s.rises;
-      ordered = l;
-      within = let r = s.within in omega arith;
-      front = s.front;
-      behind = λ k p q. let u = up m k p (omega arith) in omega arith;
-    }
+  pub short : most < f m → Narrows f least most from to low m
+  short b = record {
+    rises = s.rises;
+    ordered = l;
+    within = let r = s.within in omega arith;
+    front = s.front;
+    behind = λ k p q. let u = up m k p (omega arith) in omega arith;
+  }
 
 -- how far along says where it stands
 before_is : (s : Standing) → along s ≤ 0 → s ≡ Before
@@ -56,35 +56,34 @@ after_is Begins l = absurd (omega arith)
 after_is After l = refl
 
 -- a name that begins so was met, and the part was cut on both sides of it
-module _ (l : Lists) (ask : List ℕ) where
-  module _ (up : (i j : ℕ) → i ≤ j → j < length l.places → along_at l ask i ≤ along_at l ask j) (low high m first behind : ℕ)
-      (s : Narrows (along_at l ask) 0 1 0 (length l.places) low high) (r : low ≤ m) (h : m < high) (e : along_at l ask m ≡ 1)
-      (c : Cuts (along_at l ask) 0 low m first) (d : Cuts (along_at l ask) 1 (m + 1) high behind) where
-    in_front : (k : ℕ) → k < first → along_at l ask k ≤ 0
-    in_front k q = ⊎_elim (λ p. s.front k (omega arith) p) (λ p. c.low k p q) (cases_lt k low)
+module _ (l : Lists) (ask : List ℕ) (up : (i j : ℕ) → i ≤ j → j < length l.places → along_at l ask i ≤ along_at l ask j) (low high m first behind : ℕ)
+    (s : Narrows (along_at l ask) 0 1 0 (length l.places) low high) (r : low ≤ m) (h : m < high) (e : along_at l ask m ≡ 1)
+    (c : Cuts (along_at l ask) 0 low m first) (d : Cuts (along_at l ask) 1 (m + 1) high behind) where
+  in_front : (k : ℕ) → k < first → along_at l ask k ≤ 0
+  in_front k q = ⊎_elim (λ p. s.front k (omega arith) p) (λ p. c.low k p q) (cases_lt k low)
 
-    at_least : (k : ℕ) → first ≤ k → k < length l.places → 0 < along_at l ask k
-    at_least k p q = ⊎_elim (λ r. c.high k p r) (λ r. let u = up m k r q in omega arith) (cases_lt k m)
+  at_least : (k : ℕ) → first ≤ k → k < length l.places → 0 < along_at l ask k
+  at_least k p q = ⊎_elim (λ r. c.high k p r) (λ r. let u = up m k r q in omega arith) (cases_lt k m)
 
-    at_most : (k : ℕ) → k < behind → along_at l ask k ≤ 1
-    at_most k q =
-        let w = d.within in
-        let v = s.within in
-        ⊎_elim (λ r. let u = up k m (omega arith) (omega arith) in omega arith) (λ r. d.low k r q) (cases_lt k (m + 1))
+  at_most : (k : ℕ) → k < behind → along_at l ask k ≤ 1
+  at_most k q =
+      let w = d.within in
+      let v = s.within in
+      ⊎_elim (λ r. let u = up k m (omega arith) (omega arith) in omega arith) (λ r. d.low k r q) (cases_lt k (m + 1))
 
-    above : (k : ℕ) → behind ≤ k → k < length l.places → 1 < along_at l ask k
-    above k p q = ⊎_elim (λ r. d.high k p r) (λ r. s.behind k r q) (cases_lt k high)
+  above : (k : ℕ) → behind ≤ k → k < length l.places → 1 < along_at l ask k
+  above k p q = ⊎_elim (λ r. d.high k p r) (λ r. s.behind k r q) (cases_lt k high)
 
-    pub parted : PlacesStand l ask first behind
-    parted =
-        let w = d.within in
-        let v = s.within in record {
-          rises = let p = c.within in let q = d.rises in omega arith;
-          within = omega arith;
-          front = λ k p. before_is (standing_at l ask k) (in_front k p);
-          part = λ k p q. begins_is (standing_at l ask k) (at_least k p (omega arith)) (at_most k q);
-          behind = λ k p q. after_is (standing_at l ask k) (above k p q);
-        }
+  pub parted : PlacesStand l ask first behind
+  parted =
+      let w = d.within in
+      let v = s.within in record {
+        rises = let p = c.within in let q = d.rises in omega arith;
+        within = omega arith;
+        front = λ k p. before_is (standing_at l ask k) (in_front k p);
+        part = λ k p q. begins_is (standing_at l ask k) (at_least k p (omega arith)) (at_most k q);
+        behind = λ k p q. after_is (standing_at l ask k) (above k p q);
+      }
 
 -- the same places behind the first element
 shifted : (test : ℕ → Bool) (x : ℕ) (xs : List ℕ) (from to : ℕ) → Encloses (λ k. test (slice_index_or (x ∷ xs) k 0)) (length (x ∷ xs)) from to →

@@ -6,8 +6,7 @@ use Rattle.std.proofs.lemmas.List.Elements.{All-push}
 use Rattle.std.proofs.lemmas.List.FromFn.{get_or-range_with_len, length-range_with_len, map-range_with_len_more}
 use Rattle.std.proofs.Math.Seq.{drop-append_seam, get_or-append_seam, take-length}
 use Rattle.std.specs.List.{range_with_len}
-use Rattle.catalogue.specs.Keying.{KeysLie}
-use Rattle.catalogue.specs.Keying.{AreKeyed, HasKey}
+use Rattle.catalogue.specs.Keying.{AreKeyed, HasKey, KeysLie}
 use Rattle.catalogue.specs.Lists.{name_of}
 use Rattle.catalogue.specs.declared.names.arrange.Keyed.{Keyed}
 

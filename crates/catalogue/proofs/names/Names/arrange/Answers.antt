@@ -4,8 +4,7 @@ use Rattle.keys.specs.Rows.{key}
 use Rattle.table.specs.Meaning.{rules_of}
 use Rattle.catalogue.proofs.Arranging.{arranged}
 use Rattle.catalogue.proofs.Keys.{keyed_by}
-use Rattle.catalogue.specs.Keying.{KeysLie}
-use Rattle.catalogue.specs.Keying.{AreKeyed, numbers_of}
+use Rattle.catalogue.specs.Keying.{AreKeyed, KeysLie, numbers_of}
 use Rattle.catalogue.specs.Lists.{name_of}
 use Rattle.catalogue.proofs.names.Names.arrange.Goals as goal
 
