@@ -1,8 +1,10 @@
 pub mod Listing
+pub mod Growing
 pub mod Order
 pub mod Cutting
 pub mod Entering
 pub mod Keys
+pub mod Naming
 pub mod Arranging
 pub mod Lawful
 pub mod Once

@@ -1,21 +1,22 @@
 -- What the check of lists finds.
-use Rattle.std.proofs.Common.{Option, MatchOption, nat_lt, nat_le, ◌&&◌, ◌≡◌, ℕ, zero, suc, ◌+◌, ◌-◌, ◌<◌, ◌≤◌, Bool, true, false, None, Some, length, slice_index_or, List, refl, sym, add-one, arith}
+use Rattle.std.proofs.Common.{Option, MatchOption, nat_lt, nat_le, ◌&&◌, [], ◌∷◌, ◌∙◌, ◌≡◌, ℕ, zero, suc, ◌+◌, ◌-◌, ◌<◌, ◌≤◌, Bool, true, false, None, Some, length, slice_index_or, List, refl, sym, add-one, arith}
+use Rattle.std.proofs.lemmas.Bool.{eq-eqb, ne_eqb, true≢false}
 use Rattle.std.proofs.lemmas.Bool.Decides.{nat_tests}
 use Rattle.table.proofs.Firsts.{first_below, first_is, looked_through, none_at, none_more}
 use Rattle.table.specs.Refusals.{first_place}
-use Rattle.catalogue.specs.Lists.{Lists, falls, name_at, names_fault, no_such_name, out_of_order, too_long}
+use Rattle.catalogue.specs.Lists.{Lists, falls, name_at, names_fault, no_such_name, out_of_order, places_fault, too_long}
 use Rattle.order.specs.Names.{name_order}
 use Rattle.std.specs.List.{AllWithin, HoldsAt}
 use Rattle.std.specs.Ordering.{is_lt}
 
 -- nothing is wrong: each part of the check finds nothing
-record Sound (text starts : List ℕ) : Type 0 where
+pub record Sound (text starts : List ℕ) : Type 0 where
   pub some : 0 < length starts
   pub none_falls : first_place (falls starts) (length starts) ≡ None
   pub none_too_long : first_place (too_long starts) (length starts - 1) ≡ None
   pub ends : slice_index_or starts (length starts - 1) 0 ≡ length text
 
-sound : (text starts : List ℕ) → names_fault text starts ≡ None → Sound text starts
+pub sound : (text starts : List ℕ) → names_fault text starts ≡ None → Sound text starts
 unfolding names_fault
 sound text starts e = record {
   some = grind (arith, nat_tests);
@@ -23,6 +24,12 @@ sound text starts e = record {
   none_too_long = grind (arith, nat_tests);
   ends = grind (arith, nat_tests);
 }
+
+pub nothing_wrong : (text starts : List ℕ) → Sound text starts → names_fault text starts ≡ None
+unfolding names_fault
+nothing_wrong text starts s =
+    let a = s.some in
+    rw (ne_eqb (length starts) 0 (omega arith), s.none_falls, s.none_too_long, eq-eqb (slice_index_or starts (length starts - 1) 0) (length text) s.ends)
 
 module _ (text starts : List ℕ) (e : names_fault text starts ≡ None) where
   pub begun : 0 < length starts
@@ -93,3 +100,20 @@ long_below starts k e = let l = first_below (too_long starts) (length starts - 1
 -- where no number is unknown, that at a place is a name's
 pub known_at : (starts places : List ℕ) → first_place (no_such_name starts places) (length places) ≡ None → (k : ℕ) → k < length places → slice_index_or places k 0 + 1 < length starts
 known_at starts places e k l = let f = none_at (no_such_name starts places) (length places) e k l in grind (arith, nat_tests)
+
+-- with a list of none nothing is wrong
+pub none_listed : (l : Lists) → l.places ≡ [] → places_fault l ≡ None
+unfolding places_fault first_place
+none_listed l e = rw e
+
+-- no names
+pub none_sound : (text starts : List ℕ) → text ≡ [] → starts ≡ 0 ∷ [] → names_fault text starts ≡ None
+unfolding names_fault first_place
+none_sound text starts e f = rw (e, f)
+
+pub same_sound : (text starts text' starts' : List ℕ) → names_fault text starts ≡ None → text' ≡ text → starts' ≡ starts → names_fault text' starts' ≡ None
+same_sound text starts text' starts' s e f = rw (e, f) s
+
+-- what is not put in order needs no list of all
+pub not_whole : (b : Bool) (P : Type 0) → b ≡ false → ∥ (b ≡ true → P) ∥₁
+not_whole b P e = ∣ (λ h. absurd (true≢false (sym h ∙ e))) ∣₁

@@ -4,5 +4,7 @@ pub mod Cutting
 pub mod Checking
 pub mod Entry
 pub mod Arranging
+pub mod Filling
 pub mod Keying
+pub mod Naming
 pub mod Laws

@@ -1,7 +1,8 @@
-// Why lists are no catalogue, and why a list was not made.
+// Why lists are no catalogue, why a list was not made, and why a name was not taken.
 ghost use Rattle.std.specs.Prelude.{◌≡◌};
 ghost use Rattle.catalogue.specs.Lists.{fault_place};
 
+use keys::NameRefusal;
 use table::Failure;
 
 #[derive(Clone, Copy, PartialEq, Eq, Debug)]
@@ -45,3 +46,14 @@ pub struct TooMany {
 
 // Why names were not put in order.
 pub type OrderError = Failure<TooMany>;
+
+// Why a name is not taken into a catalogue.
+#[derive(Clone, Copy, PartialEq, Eq, Debug)]
+pub enum NotTaken {
+    // It is turned away.
+    Name(NameRefusal),
+    // With it there would be more names, or more letters of all names together, than 32 bits can count.
+    Full,
+}
+
+pub type PushError = Failure<NotTaken>;

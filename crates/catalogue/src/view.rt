@@ -7,6 +7,7 @@ use table::Table;
 
 mod check;
 mod find;
+pub(crate) mod found;
 mod look;
 
 // All names one behind the other, where each begins, with the end of the text behind, and a list of names' numbers that is in

@@ -26,6 +26,13 @@ fn all_found(
         assert_eq!(rt; catalogue.count(case.0), part.len());
         assert_eq!(rt; catalogue.first(case.0, part.len()), part);
         assert_eq!(rt; catalogue.first(case.0, 100), part);
+        let found = catalogue.found(case.0);
+        assert_eq!(rt; found.len(), part.len());
+        assert_eq!(rt; found.count(), part.len());
+        assert_eq!(rt; found.first(2).count(), part.len().min(2));
+        for (number, name) in part.iter().zip(found) {
+            assert_eq!(rt; catalogue.names().name(*number), Some(name));
+        }
         let looked = filtered(heap, table, catalogue.names(), places, case.0)?;
         assert_eq!(rt; part, looked.as_slice());
     }

@@ -1,4 +1,5 @@
-// Lists on examples: what is found in them, what is wrong with them, and lists put in order.
+// Lists on examples: what is found in them, what is wrong with them, lists put in order, and names and tables that
+// grow.
 #![tactic(auto)]
 
 #[cfg(test)]
@@ -7,6 +8,8 @@ mod book;
 mod fault;
 #[cfg(test)]
 mod find;
+#[cfg(test)]
+mod grown;
 #[cfg(test)]
 mod lent;
 #[cfg(test)]

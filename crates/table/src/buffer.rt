@@ -2,6 +2,7 @@
 ghost use Rattle.std.specs.Prelude.{◌≡◌, ◌/◌, length, None};
 ghost use Rattle.table.specs.Refusals.{refusal_of};
 
+mod copy;
 mod fill;
 
 // Numbers that would pass the check at any time.

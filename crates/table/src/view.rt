@@ -11,8 +11,8 @@ mod look;
 // would pass the check: its ghost fields, and those of its pairs, are what the check finds.
 #[derive(Clone, Copy)]
 pub struct Table<'a> {
-    letters: &'a [u16],
-    pairs: Pairs<'a>,
+    pub(crate) letters: &'a [u16],
+    pub(crate) pairs: Pairs<'a>,
     ghost whole: { length letters.now ≡ 768 },
     ghost fives: { length pairs.numbers.now ≡ 5 * pairs.count },
 }

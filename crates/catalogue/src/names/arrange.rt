@@ -59,7 +59,8 @@ impl Names<'_> {
         Ok(self.arrange(table, heap)?)
     }
 
-    fn arrange(&self, table: &Table, heap: Global) -> Result<Vec<u32>, AllocError>
+    // The same, where there are not too many.
+    pub(crate) fn arrange(&self, table: &Table, heap: Global) -> Result<Vec<u32>, AllocError>
         requires { length self.now.starts.now - 1 ≤ 2 ^ 32 }
         ensures { IfOk result (λ v. Arranged (lists (rules_of table.now) self.now.text.now self.now.starts.now v.items)) }
     {

@@ -1,7 +1,7 @@
 // Checking lent lists as a catalogue.
 ghost use Rattle.std.specs.Prelude.{◌≡◌, None, length};
 ghost use Rattle.catalogue.specs.Checking.{ListsChecked};
-ghost use Rattle.catalogue.specs.Lists.{lists, no_such_name, out_of_order};
+ghost use Rattle.catalogue.specs.Lists.{lists, names_fault, no_such_name, out_of_order, places_fault};
 ghost use Rattle.table.specs.Meaning.{rules_of};
 ghost use Rattle.table.specs.Refusals.{first_place};
 
@@ -29,12 +29,26 @@ impl<'a> Catalogue<'a> {
         if let Some(place) = first_out_of_order(table, &names, places) {
             return Err(ListFault::OutOfOrder(place));
         }
-        Ok(Catalogue {
-            table: *table,
+        Ok(Catalogue::new(*table, text, starts, places))
+    }
+
+    // The same, where nothing is wrong.
+    pub(crate) fn new(
+        table: Table<'a>,
+        text: &'a [u8],
+        starts: &'a [u32],
+        places: &'a [u32],
+    ) -> Catalogue<'a>
+        requires sound { names_fault text.now starts.now ≡ None }
+        requires listed { places_fault (lists (rules_of table) text.now starts.now places.now) ≡ None }
+        ensures { (result.table ≡ table.entry) × (result.text ≡ text.entry) × (result.starts ≡ starts.entry) × (result.places ≡ places.entry) }
+    {
+        Catalogue {
+            table,
             text,
             starts,
             places,
-        })
+        }
     }
 }
 

@@ -41,8 +41,8 @@ impl TableBuf {
         Ok(())
     }
 
-    // Whether one pair more would be taken.
-    fn allows(&self, pair: Pair) -> Result<(), Refusal>
+    // Whether one pair more would be taken, if there is memory; else why not.
+    pub fn allows(&self, pair: Pair) -> Result<(), Refusal>
         ensures { result ≡ verdict (pair_refusal (buffer_rules self.now) (length (buffer_pairs self.now)) pair) }
     {
         let place = self.pair_count();

@@ -8,7 +8,13 @@ use crate::layout::{read_pair, weights_at};
 use crate::pairs::Pairs;
 use crate::piece::{Pair, Weights};
 
-impl Pairs<'_> {
+impl<'a> Pairs<'a> {
+    pub(crate) fn numbers(&self) -> &'a [u16]
+        ensures { result ≡ self.now.numbers }
+    {
+        self.numbers
+    }
+
     pub(crate) fn len(&self) -> usize
         ensures { result ≡ self.now.count }
     {

@@ -1,0 +1,104 @@
+-- Names and a table that grow: what each step changes.
+use Rattle.std.specs.Prelude.{◌≡◌, ℕ, ◌+◌, ◌-◌, ◌^◌, ◌≤◌, ◌⊎◌, List, [], ◌∷◌, ◌++◌, None, Some, Ok, Err, Option, Result, length, map, false, true, vec_items}
+use Rattle.std.specs.List.{range_with_len}
+use Rattle.std.specs.declared.alloc.AllocError.{AllocError}
+use Rattle.catalogue.specs.Arranging.{Arranged}
+use Rattle.catalogue.specs.Checking.{lists_of}
+use Rattle.catalogue.specs.Lists.{lists, name_of}
+use Rattle.catalogue.specs.declared.buffer.CatalogueBuf.{CatalogueBuf}
+use Rattle.catalogue.specs.declared.fault.NotTaken.{NotTaken}
+use Rattle.catalogue.specs.declared.fault.NotTaken.TheVariants.{Name, Full}
+use Rattle.catalogue.specs.declared.view.Catalogue.{Catalogue}
+use Rattle.keys.specs.Refusals.{name_refusal}
+use Rattle.table.specs.Buffer.{Added, buffer_pairs, buffer_rules, pair_refusal}
+use Rattle.table.specs.Rules.{Rules, with_letter}
+use Rattle.table.specs.declared.buffer.TableBuf.{TableBuf}
+use Rattle.table.specs.declared.fault.Failure.{Failure}
+use Rattle.table.specs.declared.fault.Failure.TheVariants.{NoMemory, Refused}
+use Rattle.table.specs.declared.fault.Refusal.{Refusal}
+use Rattle.table.specs.declared.piece.Pair.{Pair}
+use Rattle.table.specs.declared.piece.Weights.{Weights}
+
+-- all names, one behind the other, and where each begins, with the end behind
+abbrev pub held_text : CatalogueBuf → List ℕ
+held_text b = vec_items b.text
+
+abbrev pub held_starts : CatalogueBuf → List ℕ
+held_starts b = vec_items b.starts
+
+-- what the table says
+abbrev pub held_rules : CatalogueBuf → Rules
+held_rules b = buffer_rules b.table
+
+-- the names themselves, in the order in which they came
+abbrev pub held_names : CatalogueBuf → List (List ℕ)
+held_names b = map (name_of (held_text b) (held_starts b)) (range_with_len 0 (length (held_starts b) - 1))
+
+-- the names are the same
+pub record SameNames (b c : CatalogueBuf) : Type 0 where
+  pub text : held_text c ≡ held_text b
+  pub starts : held_starts c ≡ held_starts b
+
+-- no names, under this table
+pub record Empty (t : TableBuf) (b : CatalogueBuf) : Type 0 where
+  pub table : b.table ≡ t
+  pub text : held_text b ≡ []
+  pub starts : held_starts b ≡ 0 ∷ []
+  pub arranged : b.arranged ≡ false
+
+-- table and names are the same, and the list is let go of
+pub record LetGo (b c : CatalogueBuf) : Type 0 where
+  pub table : c.table ≡ b.table
+  pub names : SameNames b c
+  pub places : vec_items c.places ≡ []
+  pub arranged : c.arranged ≡ false
+
+-- a name stands behind the others, and begins where they end; or there is no memory; the table is the same
+abbrev pub Appended : CatalogueBuf → (name : List ℕ) → Result Unit AllocError → CatalogueBuf → Type 0
+Appended b n (Ok x) c =
+    (c.table ≡ b.table) × (held_text c ≡ held_text b ++ n) × (held_starts c ≡ held_starts b ++ (length (held_text b) + length n) ∷ [])
+    × (held_names c ≡ held_names b ++ n ∷ []) × (c.arranged ≡ false)
+Appended b n (Err x) c = (c.table ≡ b.table) × SameNames b c
+
+-- too many names, or letters, to be counted with 32 bits
+abbrev pub TooMuch : (b : CatalogueBuf) → (name : List ℕ) → Type 0
+TooMuch b n = (2 ^ 32 ≤ length (held_text b) + length n) ⊎ (2 ^ 32 ≤ length (held_starts b))
+
+-- A name that is taken stands behind the others, and begins where they end; what is turned away, or finds no memory, changes no
+-- name. The table is the same.
+abbrev pub Pushed : CatalogueBuf → (name : List ℕ) → Result Unit (Failure NotTaken) → CatalogueBuf → Type 0
+Pushed b n (Ok x) c = (name_refusal n ≡ None) × (TooMuch b n → ⊥) × Appended b n (Ok tt) c
+Pushed b n (Err (Refused (Name why))) c = (name_refusal n ≡ Some why) × (c ≡ b)
+Pushed b n (Err (Refused Full)) c = (name_refusal n ≡ None) × TooMuch b n × (c ≡ b)
+Pushed b n (Err NoMemory) c = (name_refusal n ≡ None) × (TooMuch b n → ⊥) × (c.table ≡ b.table) × SameNames b c
+
+-- another table, and the same names
+pub record TableSet (b : CatalogueBuf) (t : TableBuf) (c : CatalogueBuf) : Type 0 where
+  pub table : c.table ≡ t
+  pub names : SameNames b c
+  pub arranged : c.arranged ≡ false
+
+-- a letter weighs what is set; the rest is the same
+pub record LetterSet (b : CatalogueBuf) (letter : ℕ) (w : Weights) (c : CatalogueBuf) : Type 0 where
+  pub rules : held_rules c ≡ with_letter (held_rules b) letter w
+  pub pairs : buffer_pairs c.table ≡ buffer_pairs b.table
+  pub names : SameNames b c
+  pub arranged : c.arranged ≡ false
+
+-- a pair is added as the table says, and the names are the same; what is turned away changes nothing
+abbrev pub PairAdded : CatalogueBuf → Pair → Result Unit (Failure Refusal) → CatalogueBuf → Type 0
+PairAdded b p (Ok x) c = Added b.table p (Ok tt) c.table × SameNames b c × (c.arranged ≡ false)
+PairAdded b p (Err (Refused why)) c = (pair_refusal (held_rules b) (length (buffer_pairs b.table)) p ≡ Some why) × (c ≡ b)
+PairAdded b p (Err NoMemory) c = Added b.table p (Err NoMemory) c.table × SameNames b c
+
+-- the names are in order, or there is no memory; the names and the table are the same
+abbrev pub PutInOrder : CatalogueBuf → Result Unit AllocError → CatalogueBuf → Type 0
+PutInOrder b (Ok x) c = (c.arranged ≡ true) × (c.table ≡ b.table) × SameNames b c
+PutInOrder b (Err x) c = (b.arranged ≡ false) × (c.table ≡ b.table) × SameNames b c
+
+-- the catalogue of all names in order under the table (between the bars: that its list is so), where they have been put in order
+abbrev pub Lent : CatalogueBuf → Option Catalogue → Type 0
+Lent b None = b.arranged ≡ false
+Lent b (Some k) =
+    (b.arranged ≡ true) × (∥ Arranged (lists_of k) ∥₁)
+    × (lists_of k ≡ lists (held_rules b) (held_text b) (held_starts b) (vec_items b.places))

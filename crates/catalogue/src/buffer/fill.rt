@@ -1,0 +1,108 @@
+// Filling a catalogue.
+ghost use Rattle.std.specs.Prelude.{◌≡◌, ◌+◌, ◌^◌, ◌<◌, ◌≤◌, IfOk, length};
+ghost use Rattle.table.specs.Buffer.{buffer_pairs, buffer_rules};
+ghost use Rattle.table.specs.Meaning.{pairs_of, rules_of};
+ghost use Rattle.table.specs.Rules.{with_letter};
+
+use crate::buffer::CatalogueBuf;
+use crate::fault::{NotTaken, PushError};
+use keys::NameRefusal;
+use std::alloc::{AllocError, Global};
+use table::{AddError, Pair, Table, TableBuf, Weights};
+
+impl CatalogueBuf {
+    ghost use Rattle.catalogue.specs.Filling.{Appended, Empty, LetGo, LetterSet, PairAdded, Pushed, TableSet};
+
+    // As many names, and as many letters of all names together, as 32 bits can count.
+    pub const MAX: usize = u32::MAX as usize;
+
+    // No names yet, under a table.
+    #[tactic(auto, using(crate::proofs::Listing::none_listed, crate::proofs::Listing::none_sound, crate::proofs::Listing::not_whole))]
+    pub fn new(table: TableBuf, heap: Global) -> Result<CatalogueBuf, AllocError>
+        ensures { IfOk result (λ b. Empty table b) }
+    {
+        let mut starts = Vec::new(heap);
+        starts.push(0)?;
+        Ok(CatalogueBuf {
+            table,
+            text: Vec::new(heap),
+            starts,
+            places: Vec::new(heap),
+            arranged: false,
+        })
+    }
+
+    // One name more, behind the others.
+    pub fn push(&mut self, name: &[u8]) -> Result<(), PushError>
+        ensures { Pushed self.old name.now result self.new }
+    {
+        if let Some(why) = NameRefusal::of(name) {
+            return Err(PushError::Refused(NotTaken::Name(why)));
+        }
+        let end = self.text.len() + name.len();
+        if end > Self::MAX || self.names().count() >= Self::MAX {
+            return Err(PushError::Refused(NotTaken::Full));
+        }
+        Ok(self.append(name, end as u32)?)
+    }
+
+    // The same, where the name may be taken: all names together end there then. Room for the start is asked for first, so that
+    // no name is half taken.
+    fn append(&mut self, name: &[u8], end: u32) -> Result<(), AllocError>
+        requires long { length name.now ≤ 1000 }
+        requires end { end ≡ length self.old.text.items + length name.now }
+        requires few { length self.old.starts.items < 2 ^ 32 }
+        ensures { Appended self.old name.now result self.new }
+    {
+        self.let_go();
+        self.starts.reserve(1)?;
+        self.text.extend_from_slice(name)?;
+        self.starts.push(end)?;
+        Ok(())
+    }
+
+    // The list is to be made anew.
+    #[tactic(auto, using(crate::proofs::Listing::none_listed, crate::proofs::Listing::not_whole))]
+    fn let_go(&mut self)
+        ensures { LetGo self.old self.new }
+    {
+        self.places.clear();
+        self.arranged = false;
+    }
+
+    // The table.
+    pub fn table(&self) -> Table<'_>
+        ensures rules { rules_of result ≡ buffer_rules self.now.table }
+        ensures pairs { pairs_of result ≡ buffer_pairs self.now.table }
+    {
+        self.table.table()
+    }
+
+    // Another table in place of this one.
+    #[tactic(auto, using(crate::proofs::Listing::none_listed, crate::proofs::Listing::not_whole))]
+    pub fn set_table(&mut self, table: TableBuf)
+        ensures { TableSet self.old table self.new }
+    {
+        self.let_go();
+        self.table = table;
+    }
+
+    // The weights of a letter, in place of those that it had.
+    #[tactic(auto, using(crate::proofs::Listing::none_listed, crate::proofs::Listing::not_whole))]
+    pub fn set_letter(&mut self, letter: u8, weights: Weights)
+        ensures { LetterSet self.old letter weights self.new }
+    {
+        self.let_go();
+        self.table.set_letter(letter, weights);
+    }
+
+    // One pair more. One that is turned away changes nothing.
+    #[tactic(auto, using(crate::proofs::Listing::none_listed, crate::proofs::Listing::not_whole))]
+    pub fn add_pair(&mut self, pair: Pair) -> Result<(), AddError>
+        ensures { PairAdded self.old pair result self.new }
+    {
+        self.table.allows(pair)?;
+        self.let_go();
+        self.table.add_pair(pair)
+    }
+}
