@@ -1,1 +1,4 @@
+pub mod Arguments
+pub mod Failing
 pub mod Sessions
+pub mod Writing

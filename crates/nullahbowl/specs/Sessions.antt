@@ -1,68 +1,173 @@
--- What the lines read so far make, and what one line more changes.
-use Rattle.std.specs.Prelude.{◌≡◌, ℕ, Bool, true, false, cond, List, [], replicate, slice_set, Some, None, Ok, Err, Option, Result}
+-- What the lines read so far make, and what one line more changes and is answered.
+use Rattle.std.specs.Prelude.{◌≡◌, ℕ, Bool, true, false, cond, List, [], ◌∷◌, ◌++◌, length, map, replicate, slice_index_or, slice_set, Some, None, Ok, Err, Option, Result, vec_items, ◌&&◌}
+use Rattle.std.specs.declared.alloc.AllocError.{AllocError}
+use Rattle.catalogue.specs.Arranging.{Arranged}
+use Rattle.catalogue.specs.Filling.{Appended, SameNames, TooMuch, held_rules, held_starts, held_text}
+use Rattle.catalogue.specs.Finding.{looked_through, may_ask}
+use Rattle.catalogue.specs.Lists.{Lists, lists, name_of}
 use Rattle.keys.specs.Making.{Made}
-use Rattle.table.specs.declared.piece.Pair.{Pair}
-use Rattle.table.specs.Buffer.{Added, buffer_pairs, buffer_rules}
-use Rattle.table.specs.Rules.{Rules, no_rules, with_letter}
-use Rattle.table.specs.Valley.{valley, valley_pairs}
-use Rattle.texts.specs.declared.fault.Fault.TheVariants.{Table, Name, Text}
-use Rattle.texts.specs.declared.line.Command.TheVariants.{SetLetter, AddPair}
-use Rattle.texts.specs.Lines.{Meaning, asks_key, blank, says, unreadable}
+use Rattle.keys.specs.Refusals.{name_refusal}
+use Rattle.nullahbowl.specs.declared.answer.Answer.{Answer}
+use Rattle.nullahbowl.specs.declared.answer.Answer.TheVariants.{Find, Key, Nothing}
+use Rattle.nullahbowl.specs.declared.answer.TakeError.{TakeError}
+use Rattle.nullahbowl.specs.declared.answer.TakeError.TheVariants.{Full, NoMemory, Refused}
 use Rattle.nullahbowl.specs.declared.session.Session.{Session}
-use Rattle.table.specs.declared.fault.Failure.{Failure}
-use Rattle.table.specs.declared.fault.Failure.TheVariants.{Refused, NoMemory}
-use Rattle.texts.specs.declared.fault.Fault.{Fault}
+use Rattle.table.specs.Buffer.{buffer_pairs, pair_refusal}
+use Rattle.table.specs.Rules.{Rules, no_rules, with_letter, with_pair}
+use Rattle.table.specs.Valley.{valley, valley_pairs}
+use Rattle.table.specs.declared.piece.Pair.{Pair}
+use Rattle.table.specs.declared.piece.Weights.{Weights}
+use Rattle.texts.specs.declared.fault.Fault.TheVariants.{Again, Name, Question, Table, Text}
+use Rattle.texts.specs.declared.line.Entry.TheVariants as entry
+use Rattle.texts.specs.Lines.{Meaning, blank, enters, finds, names, says, unreadable, wants_key}
 
--- the table of the lines, and the valley's where no line has made one
-abbrev pub session_rules : Session → Rules
-session_rules s = cond s.own (buffer_rules s.table) valley
-
--- its pairs
-abbrev pub session_pairs : Session → List Pair
-session_pairs s = cond s.own (buffer_pairs s.table) valley_pairs
-
--- the letters that the lines of the table name; all, where it is the valley's
+-- the letters that the lines of a table name; all, where the table is the valley's
 abbrev pub session_letters : Session → List Bool
 session_letters s = cond s.own s.named (replicate 256 true)
 
--- a failure in other words
-abbrev pub Restated : {R : Type 0} → (R → Fault → Type 0) → Failure R → Failure Fault → Type 0
-Restated gives (Refused r) (Refused f) = gives r f
-Restated gives (Refused r) NoMemory = ⊥
-Restated gives NoMemory f = f ≡ NoMemory
+-- what the lines of a table say by now, and their pairs
+abbrev pub entered_rules : Session → Rules
+entered_rules s = cond s.own (held_rules s.book) no_rules
 
--- a pair is added as the table says, its letters are named, and nothing is asked for
-abbrev pub PairTaken : {V : Type 0} → Session → Pair → Result (Option V) (Failure Fault) → Session → Type 0
-PairTaken s p (Ok None) t = Added s.table p (Ok tt) t.table × (t.own ≡ true) × (t.named ≡ slice_set (slice_set s.named p.first true) p.second true)
-PairTaken s p (Ok (Some v)) t = ⊥
-PairTaken s p (Err (Refused (Table why))) t = Added s.table p (Err (Refused why)) t.table × (t.own ≡ s.own) × (t.named ≡ s.named)
-PairTaken s p (Err (Refused (Name why))) t = ⊥
-PairTaken s p (Err (Refused (Text k))) t = ⊥
-PairTaken s p (Err NoMemory) t = Added s.table p (Err NoMemory) t.table × (t.own ≡ s.own) × (t.named ≡ s.named)
+abbrev pub entered_pairs : Session → List Pair
+entered_pairs s = cond s.own (buffer_pairs s.book.table) []
 
--- a key is made, or not, as under a checked table
-abbrev pub KeyAnswered : {V : Type 0} → Rules → List ℕ → (V → List ℕ) → Result (Option V) (Failure Fault) → Type 0
-KeyAnswered rules n items (Ok None) = ⊥
-KeyAnswered rules n items (Ok (Some v)) = Made rules n items (Ok v)
-KeyAnswered rules n items (Err (Refused (Table why))) = ⊥
-KeyAnswered rules n items (Err (Refused (Name why))) = Made rules n items (Err (Refused why))
-KeyAnswered rules n items (Err (Refused (Text k))) = ⊥
-KeyAnswered rules n items (Err NoMemory) = Made rules n items (Err NoMemory)
+-- all names under the table, and their list
+abbrev pub session_lists : Session → Lists
+session_lists s = lists (held_rules s.book) (held_text s.book) (held_starts s.book) (vec_items s.book.places)
 
--- nothing has been taken yet
+-- nothing has been taken yet, and the table is the valley's
 pub record Fresh (s : Session) : Type 0 where
   pub own : s.own ≡ false
+  pub weighed : s.weighed ≡ replicate 256 false
   pub named : s.named ≡ replicate 256 false
-  pub rules : buffer_rules s.table ≡ no_rules
-  pub pairs : buffer_pairs s.table ≡ []
+  pub rules : held_rules s.book ≡ valley
+  pub pairs : buffer_pairs s.book.table ≡ valley_pairs
+  pub text : held_text s.book ≡ []
+  pub starts : held_starts s.book ≡ 0 ∷ []
+  pub arranged : s.book.arranged ≡ false
+
+-- where the names have been put in order, their list is one of all names, in order under the table (between the bars: that it
+-- is so)
+abbrev pub IsListed : Session → Type 0
+IsListed s = s.book.arranged ≡ true → ∥ Arranged (session_lists s) ∥₁
+
+-- the names of this list that begin so, in its order: what looking through it gives; none where the names are not in order, or
+-- what is asked is too long
+abbrev pub found_names : Session → (ask : List ℕ) → List (List ℕ)
+found_names s ask = map (name_of (held_text s.book) (held_starts s.book)) (looked_through (s.book.arranged && may_ask ask) (session_lists s) ask)
+
+-- what lines of a table have said is the same
+pub record SameEntries (s t : Session) : Type 0 where
+  pub own : t.own ≡ s.own
+  pub weighed : t.weighed ≡ s.weighed
+  pub named : t.named ≡ s.named
+
+-- table, names and entries are the same
+pub record Same (s t : Session) : Type 0 where
+  pub entries : SameEntries s t
+  pub table : t.book.table ≡ s.book.table
+  pub names : SameNames s.book t.book
+
+-- all names are in order, and nothing else changes; or there is no memory
+abbrev pub Settled : Session → Result Unit AllocError → Session → Type 0
+Settled s (Ok x) t = (t.book.arranged ≡ true) × Same s t
+Settled s (Err x) t = (s.book.arranged ≡ false) × Same s t
+
+-- A letter that has no line yet weighs so, and the table is that of the lines; a second line for it, at place k, is turned away.
+-- There may be no memory where it is the first line of a table. What is not taken changes nothing.
+abbrev pub Weighed : Session → (letter : ℕ) → Weights → (k : ℕ) → Result Unit TakeError → Session → Type 0
+Weighed s a w k (Ok x) t =
+    (slice_index_or s.weighed a false ≡ false) × (t.own ≡ true) × (t.weighed ≡ slice_set s.weighed a true) × (t.named ≡ slice_set s.named a true)
+    × (held_rules t.book ≡ with_letter (entered_rules s) a w) × (buffer_pairs t.book.table ≡ entered_pairs s) × SameNames s.book t.book
+    × (t.book.arranged ≡ false)
+Weighed s a w k (Err (Refused (Again j))) t = (slice_index_or s.weighed a false ≡ true) × (j ≡ k) × (t ≡ s)
+Weighed s a w k (Err (Refused (Text j))) t = ⊥
+Weighed s a w k (Err (Refused (Question why))) t = ⊥
+Weighed s a w k (Err (Refused (Name why))) t = ⊥
+Weighed s a w k (Err (Refused (Table why))) t = ⊥
+Weighed s a w k (Err Full) t = ⊥
+Weighed s a w k (Err NoMemory) t = (slice_index_or s.weighed a false ≡ false) × (s.own ≡ false) × (t ≡ s)
+
+-- A pair is added to those of the lines, and the table is that of the lines. Where it can't be one of them it is turned away, as
+-- the table says, and nothing changes. Or there is no memory, and what all say is the same.
+abbrev pub Joined : Session → Pair → Result Unit TakeError → Session → Type 0
+Joined s p (Ok x) t =
+    (pair_refusal (entered_rules s) (length (entered_pairs s)) p ≡ None)
+    × (t.own ≡ true) × (t.weighed ≡ s.weighed) × (t.named ≡ slice_set (slice_set s.named p.first true) p.second true)
+    × (held_rules t.book ≡ with_pair (entered_rules s) p) × (buffer_pairs t.book.table ≡ entered_pairs s ++ p ∷ []) × SameNames s.book t.book
+    × (t.book.arranged ≡ false)
+Joined s p (Err (Refused (Table why))) t = (pair_refusal (entered_rules s) (length (entered_pairs s)) p ≡ Some why) × (t ≡ s)
+Joined s p (Err (Refused (Again j))) t = ⊥
+Joined s p (Err (Refused (Text j))) t = ⊥
+Joined s p (Err (Refused (Question why))) t = ⊥
+Joined s p (Err (Refused (Name why))) t = ⊥
+Joined s p (Err Full) t = ⊥
+Joined s p (Err NoMemory) t =
+    (s.own ≡ true → pair_refusal (entered_rules s) (length (entered_pairs s)) p ≡ None)
+    × (held_rules t.book ≡ held_rules s.book) × (buffer_pairs t.book.table ≡ buffer_pairs s.book.table) × SameEntries s t × SameNames s.book t.book
+
+-- What asks for names is turned away if it is too long, and changes nothing; else all names are in order. There may be no memory
+-- where they were not yet.
+abbrev pub Prepared : Session → (ask : List ℕ) → Result Unit TakeError → Session → Type 0
+Prepared s n (Ok x) t = (name_refusal n ≡ None) × (t.book.arranged ≡ true) × Same s t
+Prepared s n (Err (Refused (Question why))) t = (name_refusal n ≡ Some why) × (t ≡ s)
+Prepared s n (Err (Refused (Again j))) t = ⊥
+Prepared s n (Err (Refused (Text j))) t = ⊥
+Prepared s n (Err (Refused (Name why))) t = ⊥
+Prepared s n (Err (Refused (Table why))) t = ⊥
+Prepared s n (Err Full) t = ⊥
+Prepared s n (Err NoMemory) t = (name_refusal n ≡ None) × (s.book.arranged ≡ false) × Same s t
+
+-- what was done, where nothing is asked for
+abbrev pub done : Result Answer TakeError → Option (Result Unit TakeError)
+done (Ok Nothing) = Some (Ok tt)
+done (Ok (Key v)) = None
+done (Ok (Find n)) = None
+done (Err e) = Some (Err e)
+
+-- something was done, and this holds of it
+abbrev pub IfDone : Option (Result Unit TakeError) → (Result Unit TakeError → Type 0) → Type 0
+IfDone None P = ⊥
+IfDone (Some r) P = P r
+
+-- one name more, behind the others; what is turned away, or is one too many, changes nothing; or there is no memory
+abbrev pub NameTaken : Session → (name : List ℕ) → Result Unit TakeError → Session → Type 0
+NameTaken s n (Ok x) t = (name_refusal n ≡ None) × (TooMuch s.book n → ⊥) × Appended s.book n (Ok tt) t.book × SameEntries s t
+NameTaken s n (Err (Refused (Name why))) t = (name_refusal n ≡ Some why) × (t ≡ s)
+NameTaken s n (Err (Refused (Again j))) t = ⊥
+NameTaken s n (Err (Refused (Text j))) t = ⊥
+NameTaken s n (Err (Refused (Question why))) t = ⊥
+NameTaken s n (Err (Refused (Table why))) t = ⊥
+NameTaken s n (Err Full) t = (name_refusal n ≡ None) × TooMuch s.book n × (t ≡ s)
+NameTaken s n (Err NoMemory) t = (name_refusal n ≡ None) × (TooMuch s.book n → ⊥) × Same s t
+
+-- a key is made, or not, as under a checked table
+abbrev pub KeyAnswered : Rules → List ℕ → Result Answer TakeError → Type 0
+KeyAnswered rules n (Ok (Key v)) = Made rules n vec_items (Ok v)
+KeyAnswered rules n (Ok Nothing) = ⊥
+KeyAnswered rules n (Ok (Find m)) = ⊥
+KeyAnswered rules n (Err (Refused (Question why))) = name_refusal n ≡ Some why
+KeyAnswered rules n (Err (Refused (Again j))) = ⊥
+KeyAnswered rules n (Err (Refused (Text j))) = ⊥
+KeyAnswered rules n (Err (Refused (Name why))) = ⊥
+KeyAnswered rules n (Err (Refused (Table why))) = ⊥
+KeyAnswered rules n (Err Full) = ⊥
+KeyAnswered rules n (Err NoMemory) = name_refusal n ≡ None
+
+-- all names are in order, and what is asked is handed back to find with; or it is turned away
+abbrev pub FindAnswered : Session → (ask : List ℕ) → Result Answer TakeError → Session → Type 0
+FindAnswered s n (Ok (Find m)) t = (m.now ≡ n) × Prepared s n (Ok tt) t
+FindAnswered s n (Ok Nothing) t = ⊥
+FindAnswered s n (Ok (Key v)) t = ⊥
+FindAnswered s n (Err e) t = Prepared s n (Err e) t
 
 -- the line at place k is taken, and what it asks for is answered; what is turned away changes nothing
-abbrev pub Taken : {V : Type 0} → Session → Meaning → (k : ℕ) → (V → List ℕ) → Result (Option V) (Failure Fault) → Session → Type 0
-Taken s blank k items r t = (r ≡ Ok None) × (t ≡ s)
-Taken s unreadable k items r t = (r ≡ Err (Refused (Text k))) × (t ≡ s)
-Taken s (asks_key n) k items r t = KeyAnswered (session_rules s) n items r × (t ≡ s)
-Taken s (says (SetLetter a w)) k items r t =
-    (r ≡ Ok None) × (t.own ≡ true) × (t.named ≡ slice_set s.named a true)
-    × (buffer_rules t.table ≡ with_letter (buffer_rules s.table) a w)
-    × (buffer_pairs t.table ≡ buffer_pairs s.table)
-Taken s (says (AddPair p)) k items r t = PairTaken s p r t
+abbrev pub Taken : Session → Meaning → (k : ℕ) → Result Answer TakeError → Session → Type 0
+Taken s blank k r t = (r ≡ Ok Nothing) × (t ≡ s)
+Taken s unreadable k r t = (r ≡ Err (Refused (Text k))) × (t ≡ s)
+Taken s (says (enters (entry.Letter a w))) k r t = IfDone (done r) (λ d. Weighed s a w k d t)
+Taken s (says (enters (entry.Pair p))) k r t = IfDone (done r) (λ d. Joined s p d t)
+Taken s (says (names n)) k r t = IfDone (done r) (λ d. NameTaken s n d t)
+Taken s (says (wants_key n)) k r t = KeyAnswered (held_rules s.book) n r × (t ≡ s)
+Taken s (says (finds n)) k r t = FindAnswered s n r t

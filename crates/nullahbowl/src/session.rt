@@ -1,50 +1,52 @@
-// What the lines read so far make.
-ghost use Rattle.std.specs.Prelude.{◌≡◌, IfOk, vec_items};
-ghost use Rattle.nullahbowl.specs.Sessions.{Fresh, KeyAnswered, PairTaken, Restated, Taken, session_letters, session_pairs, session_rules};
+// What the lines read so far make, and what they ask for.
+ghost use Rattle.std.specs.Prelude.{◌≡◌, IfOk};
+ghost use Rattle.catalogue.specs.Filling.{held_rules};
+ghost use Rattle.catalogue.specs.Naming.{names_left};
+ghost use Rattle.nullahbowl.specs.Sessions.{Fresh, IsListed, Joined, Prepared, Settled, Taken, Weighed, found_names, session_letters};
+ghost use Rattle.table.specs.Buffer.{buffer_pairs};
 ghost use Rattle.table.specs.Meaning.{pairs_of, rules_of};
-ghost use Rattle.texts.specs.Lines.{line_of};
+ghost use Rattle.texts.specs.Lines.{meaning_of};
 ghost use Rattle.texts.specs.Parts.{without_return};
 
-use keys::SortKeys;
+use crate::answer::{Answer, TakeError};
+use catalogue::{CatalogueBuf, NamesFound};
+use keys::{NameRefusal, SortKeys};
 use std::alloc::{AllocError, Global};
-use table::{Failure, Pair, Table, TableBuf};
-use texts::{Command, Fault, Line, without_return};
+use table::{Pair, Table, TableBuf, Weights};
+use texts::{Command, Entry, Fault, Line, without_return};
 
 #[derive(Drop)]
 pub struct Session {
-    table: TableBuf,
-    // Whether a line has set a letter or added a pair. Beside the table, and not an `Option` of it, since a table that is
-    // made by the first such line would want memory for it, and setting a letter wants none.
+    // All names, and the table: the valley's until a line of a table has been taken.
+    book: CatalogueBuf,
+    // Whether a line of a table has been taken.
     own: bool,
-    // The letters that such a line names.
+    // The letters that have a line of their own.
+    weighed: [bool; 256],
+    // The letters that a line of a table names: these, and those of pairs.
     named: [bool; 256],
 }
-
-// Why a line was not taken; nothing has changed then.
-pub type TakeError = Failure<Fault>;
 
 impl Session {
     // Nothing has been taken yet.
     pub fn new(heap: Global) -> Result<Session, AllocError>
         ensures { IfOk result (λ s. Fresh s) }
     {
+        let valley = Table::valley().to_buf(heap)?;
         Ok(Session {
-            table: TableBuf::new(heap)?,
+            book: CatalogueBuf::new(valley, heap)?,
             own: false,
+            weighed: [false; 256],
             named: [false; 256],
         })
     }
 
-    // The table of the lines, or the valley's where none has made one.
+    // The table by now.
     pub fn table(&self) -> Table<'_>
-        ensures rules { rules_of result ≡ session_rules self.now }
-        ensures pairs { pairs_of result ≡ session_pairs self.now }
+        ensures rules { rules_of result ≡ held_rules self.now.book }
+        ensures pairs { pairs_of result ≡ buffer_pairs self.now.book.table }
     {
-        if self.own {
-            self.table.table()
-        } else {
-            Table::valley()
-        }
+        self.book.table()
     }
 
     // The letters that the lines of the table name; all, where it is the valley's.
@@ -54,55 +56,106 @@ impl Session {
         if self.own { self.named } else { [true; 256] }
     }
 
-    // One line more, which stands at `place` in its file, and what it asks for: the sort key of a name.
-    pub fn take(
-        &mut self,
-        heap: Global,
-        line: &[u8],
-        place: usize,
-    ) -> Result<Option<Vec<u32>>, TakeError>
-        ensures { Taken self.old (line_of (without_return line.now)) place vec_items result self.new }
+    // The names that begin so, in order; none where a name has come or the table has changed since all were put in order.
+    pub fn find(&self, ask: &[u8]) -> NamesFound<'_>
+        ensures listed { IsListed self.now }
+        ensures found { names_left result ≡ found_names self.now ask.now }
     {
-        match Line::read(without_return(line)) {
-            Line::Blank => Ok(None),
-            Line::Unreadable => Err(TakeError::Refused(Fault::Text(place))),
-            Line::Key(name) => self.key(heap, name),
-            Line::Says(Command::SetLetter(letter, weights)) => {
-                self.table.set_letter(letter, weights);
-                self.own = true;
-                self.named[letter as usize] = true;
-                Ok(None)
-            }
-            Line::Says(Command::AddPair(pair)) => self.add(pair),
+        match self.book.catalogue() {
+            Some(catalogue) => catalogue.found(ask),
+            None => NamesFound::default(),
         }
     }
 
-    // One pair more; nothing is asked for.
-    fn add(&mut self, pair: Pair) -> Result<Option<Vec<u32>>, TakeError>
-        ensures { PairTaken self.old pair result self.new }
+    // All names are put in order, where they are not yet.
+    pub fn put_in_order(&mut self, heap: Global) -> Result<(), AllocError>
+        ensures { Settled self.old result self.new }
     {
-        self.table.add_pair(pair).map_err(restated)?;
-        self.own = true;
+        self.book.put_in_order(heap)
+    }
+
+    // One line more, which stands at `place` in its file, and what it asks for.
+    pub fn take<'l>(
+        &mut self,
+        heap: Global,
+        line: &'l [u8],
+        place: usize,
+    ) -> Result<Answer<'l>, TakeError>
+        ensures { Taken self.old (meaning_of (without_return line.now)) place result self.new }
+    {
+        match Line::read(without_return(line)) {
+            Line::Blank => Ok(Answer::Nothing),
+            Line::Unreadable => Err(TakeError::Refused(Fault::Text(place))),
+            Line::Says(Command::Enter(Entry::Letter(letter, weights))) => {
+                self.weigh(heap, letter, weights, place)?;
+                Ok(Answer::Nothing)
+            }
+            Line::Says(Command::Enter(Entry::Pair(pair))) => {
+                self.join(heap, pair)?;
+                Ok(Answer::Nothing)
+            }
+            Line::Says(Command::Find(ask)) => {
+                self.prepare(heap, ask)?;
+                Ok(Answer::Find(ask))
+            }
+            Line::Says(Command::Key(name)) => Ok(Answer::Key(self.table().sort_key(heap, name)?)),
+            Line::Says(Command::Name(name)) => {
+                self.book.push(name)?;
+                Ok(Answer::Nothing)
+            }
+        }
+    }
+
+    // A letter that has no line yet weighs so.
+    fn weigh(
+        &mut self,
+        heap: Global,
+        letter: u8,
+        weights: Weights,
+        place: usize,
+    ) -> Result<(), TakeError>
+        ensures { Weighed self.old letter weights place result self.new }
+    {
+        if self.weighed[letter as usize] {
+            return Err(TakeError::Refused(Fault::Again(place)));
+        }
+        if self.own {
+            self.book.set_letter(letter, weights);
+        } else {
+            let mut table = TableBuf::new(heap)?;
+            table.set_letter(letter, weights);
+            self.book.set_table(table);
+            self.own = true;
+        }
+        self.weighed[letter as usize] = true;
+        self.named[letter as usize] = true;
+        Ok(())
+    }
+
+    // One pair more.
+    fn join(&mut self, heap: Global, pair: Pair) -> Result<(), TakeError>
+        ensures { Joined self.old pair result self.new }
+    {
+        if self.own {
+            self.book.add_pair(pair)?;
+        } else {
+            let mut table = TableBuf::new(heap)?;
+            table.add_pair(pair)?;
+            self.book.set_table(table);
+            self.own = true;
+        }
         self.named[pair.first as usize] = true;
         self.named[pair.second as usize] = true;
-        Ok(None)
+        Ok(())
     }
 
-    // The sort key of a name under the table as it is.
-    fn key(&self, heap: Global, name: &[u8]) -> Result<Option<Vec<u32>>, TakeError>
-        ensures { KeyAnswered (session_rules self.now) name.now vec_items result }
+    // The names are in order, if what is asked may be asked.
+    fn prepare(&mut self, heap: Global, ask: &[u8]) -> Result<(), TakeError>
+        ensures { Prepared self.old ask.now result self.new }
     {
-        let key = self.table().sort_key(heap, name).map_err(restated)?;
-        Ok(Some(key))
-    }
-}
-
-// The same failure, with what was turned away in the words of lines.
-fn restated<R: Into<Fault>>(failure: Failure<R>) -> TakeError
-    ensures { Restated R.converts failure result }
-{
-    match failure {
-        Failure::Refused(why) => Failure::Refused(why.into()),
-        Failure::NoMemory => Failure::NoMemory,
+        if let Some(why) = NameRefusal::of(ask) {
+            return Err(TakeError::Refused(Fault::Question(why)));
+        }
+        Ok(self.put_in_order(heap)?)
     }
 }

@@ -1,27 +1,81 @@
 -- A text cut at its first mark.
-use Rattle.std.proofs.Common.{◌≡◌, ℕ, zero, suc, ◌+◌, ◌-◌, ◌<◌, ◌≤◌, Bool, true, false, cond, ◌&&◌, eqb, List, [], ◌∷◌, length, get_or, take, drop, Some, None, sym, refl, ap, ◌∙◌, add-one, arith}
-use Rattle.std.proofs.lemmas.List.{at_drop_more, nil_from_length, take_rest}
-use Rattle.std.proofs.lemmas.Bool.{eq-eqb, ne_eqb, eqb-true, eqb-false}
-use Rattle.std.specs.Cmp.Lexicographic.{pointwise}
-use Rattle.texts.specs.Parts.{behind_word, led, parts}
+use Rattle.std.proofs.Common.{◌≡◌, ℕ, suc, ◌+◌, ◌<◌, ◌≤◌, ◌⊎◌, inl, inr, Bool, true, false, cond, eqb, List, [], ◌∷◌, ◌++◌, length, get_or, take, drop, Some, None, refl, ap, ◌∙◌, arith, sym}
+use Rattle.std.proofs.lemmas.Bool.{eq-eqb, ne_eqb, cases_eq}
+use Rattle.std.proofs.lemmas.List.{drop_more, get_or-take, length-take, take-append-drop}
+use Rattle.texts.specs.Parts.{behind, front, led, parts, parts_left}
 
 module _ (m : ℕ) where
-  pub cut_at : (xs : List ℕ) (i : ℕ) → i < length xs → ((k : ℕ) → k < i → get_or xs k 0 ≡ m → ⊥) → get_or xs i 0 ≡ m → parts m xs ≡ take i xs ∷ parts m (drop (i + 1) xs)
-  unfolding parts
-  cut_at [] i l h e = absurd (omega arith)
-  cut_at (x ∷ xs) zero l h e = rw (eq-eqb x m e)
-  cut_at (x ∷ xs) (suc i) l h e =
-      let ih = cut_at xs i (omega arith) (λ k j. h (suc k) (omega arith)) e in
-      let n = ne_eqb x m (h 0 (omega arith)) in
-      rw (n, ih, add-one, add-one)
+  -- the first part is up to the first mark, and the others are those of what stands behind it
+  pub parts_first : (xs : List ℕ) → parts m xs ≡ front m xs ∷ parts_left m (behind m xs)
+  unfolding parts front behind
+  parts_first [] = refl
+  parts_first (x ∷ xs) = go (eqb x m) (parts_first xs)
+    where
+      go : (b : Bool) → parts m xs ≡ front m xs ∷ parts_left m (behind m xs) →
+          cond b ([] ∷ parts m xs) (led x (parts m xs)) ≡ cond b [] (x ∷ front m xs) ∷ parts_left m (cond b (Some xs) (behind m xs))
+      go true e = refl
+      go false e = rw e refl
 
-  pub cut_none : (xs : List ℕ) → ((k : ℕ) → k < length xs → get_or xs k 0 ≡ m → ⊥) → parts m xs ≡ xs ∷ []
-  unfolding parts
-  cut_none [] h = refl
-  cut_none (x ∷ xs) h =
-      let ih = cut_none xs (λ k j. h (suc k) (omega arith)) in
-      let n = ne_eqb x m (h 0 (omega arith)) in
-      rw (n, ih)
+  -- a text that holds no mark
+  abbrev pub IsFree : List ℕ → Type 0
+  IsFree [] = Unit {0}
+  IsFree (x ∷ xs) = (x ≡ m → ⊥) × IsFree xs
+
+  pub free_places : (xs : List ℕ) → ((k : ℕ) → k < length xs → get_or xs k 0 ≡ m → ⊥) → IsFree xs
+  free_places [] h = tt
+  free_places (x ∷ xs) h = (h 0 (omega arith), free_places xs (λ k l. h (suc k) (omega arith)))
+
+  pub free_append : (xs ys : List ℕ) → IsFree xs → IsFree ys → IsFree (xs ++ ys)
+  free_append [] ys f g = g
+  free_append (x ∷ xs) ys f g = (f.0, free_append xs ys f.1 g)
+
+  -- its first part, where it holds no mark, and where one stands behind p
+  pub front_free : (xs : List ℕ) → IsFree xs → front m xs ≡ xs
+  unfolding front
+  front_free [] f = refl
+  front_free (x ∷ xs) f = rw (ne_eqb x m f.0, front_free xs f.1)
+
+  pub behind_free : (xs : List ℕ) → IsFree xs → behind m xs ≡ None
+  unfolding behind
+  behind_free [] f = refl
+  behind_free (x ∷ xs) f = rw (ne_eqb x m f.0, behind_free xs f.1)
+
+  pub front_of : (p r : List ℕ) → IsFree p → front m (p ++ m ∷ r) ≡ p
+  unfolding front
+  front_of [] r f = rw (eq-eqb m m refl)
+  front_of (x ∷ p) r f = rw (ne_eqb x m f.0, front_of p r f.1)
+
+  pub behind_of : (p r : List ℕ) → IsFree p → behind m (p ++ m ∷ r) ≡ Some r
+  unfolding behind
+  behind_of [] r f = rw (eq-eqb m m refl)
+  behind_of (x ∷ p) r f = rw (ne_eqb x m f.0, behind_of p r f.1)
+
+  -- the same, where its first mark is at place i
+  pub cut_at : (xs : List ℕ) (i : ℕ) → i < length xs → ((k : ℕ) → k < i → get_or xs k 0 ≡ m → ⊥) → get_or xs i 0 ≡ m → (front m xs ≡ take i xs) × (behind m xs ≡ Some (drop (i + 1) xs))
+  cut_at xs i l h e =
+      let s : xs ≡ take i xs ++ m ∷ drop (i + 1) xs = sym (take-append-drop i xs) ∙ ap (λ ys. take i xs ++ ys) (drop_more xs i 0 l ∙ ap (λ x. x ∷ drop (i + 1) xs) e) in
+      let n : length (take i xs) ≡ i = grind (arith, length-take) in
+      let f = free_places (take i xs) (λ k b q. h k (omega arith) (sym (get_or-take i xs k 0 (omega arith)) ∙ q)) in
+      (ap (front m) s ∙ front_of (take i xs) (drop (i + 1) xs) f, ap (behind m) s ∙ behind_of (take i xs) (drop (i + 1) xs) f)
+
+  pub parts_free : (xs : List ℕ) → IsFree xs → parts m xs ≡ xs ∷ []
+  parts_free xs f = parts_first xs ∙ rw (front_free xs f, behind_free xs f) refl
+
+  pub parts_of : (p r xs : List ℕ) → IsFree p → xs ≡ p ++ m ∷ r → parts m xs ≡ p ∷ parts m r
+  parts_of p r xs f e = rw (e, parts_first (p ++ m ∷ r), front_of p r f, behind_of p r f) refl
+
+  -- any text holds no mark, or falls in two at its first mark
+  abbrev pub IsCut : List ℕ → Type 0
+  IsCut xs = IsFree xs ⊎ ((p : List ℕ) × (r : List ℕ) × IsFree p × (xs ≡ p ++ m ∷ r))
+
+  pub cut : (xs : List ℕ) → IsCut xs
+  cut [] = inl tt
+  cut (x ∷ xs) = go (cases_eq x m) (cut xs)
+    where
+      go : ((x ≡ m) ⊎ (x ≡ m → ⊥)) → IsCut xs → IsCut (x ∷ xs)
+      go (inl e) h = inr ([], xs, tt, ap (λ y. y ∷ xs) e)
+      go (inr n) (inl f) = inl (n, f)
+      go (inr n) (inr h) = inr (x ∷ h.0, h.1, (n, h.2), ap (λ l. x ∷ l) h.3)
 
 -- a text has a part, if an empty one, and at most one more than bytes
 length_led : (x : ℕ) (ws : List (List ℕ)) → 0 < length ws → length (led x ws) ≡ length ws
@@ -29,13 +83,7 @@ length_led x [] l = absurd (omega arith)
 length_led x (w ∷ ws) l = refl
 
 pub parts_some : (m : ℕ) (xs : List ℕ) → 0 < length (parts m xs)
-unfolding parts
-parts_some m [] = omega arith
-parts_some m (x ∷ xs) = go (eqb x m) (parts_some m xs)
-  where
-    go : (b : Bool) → 0 < length (parts m xs) → 0 < length (cond b ([] ∷ parts m xs) (led x (parts m xs)))
-    go true l = omega arith
-    go false l = let e = length_led x (parts m xs) l in omega arith
+parts_some m xs = rw (parts_first m xs) (omega arith)
 
 pub parts_most : (m : ℕ) (xs : List ℕ) → length (parts m xs) ≤ length xs + 1
 unfolding parts
@@ -45,34 +93,3 @@ parts_most m (x ∷ xs) = go (eqb x m) (parts_some m xs) (parts_most m xs)
     go : (b : Bool) → 0 < length (parts m xs) → length (parts m xs) ≤ length xs + 1 → length (cond b ([] ∷ parts m xs) (led x (parts m xs))) ≤ suc (length xs) + 1
     go true l h = omega arith
     go false l h = let e = length_led x (parts m xs) l in omega arith
-
--- a line beside a word: what stands behind the word, where the line begins with it
-pub behind_prefix : (ws xs : List ℕ) → behind_word ws xs ≡ cond (pointwise eqb (take (length ws) xs) ws) (behind_word [] (drop (length ws) xs)) None
-unfolding behind_word
-behind_prefix [] xs = refl
-behind_prefix (w ∷ ws) [] = refl
-behind_prefix (w ∷ ws) (x ∷ xs) = go (eqb w x) refl (behind_prefix ws xs)
-  where
-    go : (b : Bool) → eqb w x ≡ b → behind_word ws xs ≡ cond (pointwise eqb (take (length ws) xs) ws) (behind_word [] (drop (length ws) xs)) None → cond b (behind_word ws xs) None ≡ cond (eqb x w && pointwise eqb (take (length ws) xs) ws) (behind_word [] (drop (length ws) xs)) None
-    go true e ih = rw (eq-eqb x w (sym (eqb-true w x e))) ih
-    go false e ih = rw (ne_eqb x w (λ h. eqb-false w x e (sym h)))
-
-module _ (ws xs : List ℕ) where
-  pub behind_other : pointwise eqb (take (length ws) xs) ws ≡ false → behind_word ws xs ≡ None
-  behind_other e = rw (behind_prefix ws xs, e)
-
-  module _ (rest : List ℕ) (b : (pointwise eqb (take (length ws) xs) ws ≡ true) × (rest ≡ drop (length ws) xs)) where
-    behind_rest : behind_word ws xs ≡ behind_word [] rest
-    behind_rest = rw (behind_prefix ws xs, b.0, b.1)
-
-    pub behind_alone : length rest < 1 → behind_word ws xs ≡ Some rest
-    unfolding behind_word
-    behind_alone l = let e = nil_from_length rest (omega arith) in behind_rest ∙ ap (behind_word []) e ∙ ap Some (sym e)
-
-    pub behind_space : 0 < length rest → get_or rest 0 0 ≡ 32 → behind_word ws xs ≡ Some (take (length rest - 1) (drop 1 rest))
-    unfolding behind_word
-    behind_space l e = behind_rest ∙ (at_drop_more (behind_word []) rest 0 0 l ∙ rw (eq-eqb (get_or rest 0 0) 32 e, take_rest rest 1))
-
-    pub behind_longer : 0 < length rest → (get_or rest 0 0 ≡ 32 → ⊥) → behind_word ws xs ≡ None
-    unfolding behind_word
-    behind_longer l n = behind_rest ∙ (at_drop_more (behind_word []) rest 0 0 l ∙ rw (ne_eqb (get_or rest 0 0) 32 n))

@@ -1,4 +1,7 @@
 pub mod Cutting
+pub mod Forming
+pub mod Joining
 pub mod Reading
+pub mod Returning
 pub mod Saying
 pub mod Writing

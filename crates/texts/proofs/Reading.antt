@@ -12,12 +12,17 @@ use Rattle.std.specs.Str.{IsAscii}
 use Rattle.std.specs.Str.Parse.{AllDigits, IsNumeral, digits_value}
 use Rattle.texts.specs.Numerals.{all_digits, value, number_of, hex_digit, hex_of, letter_of}
 
--- `Some` just where P holds, and a test of P
-pick : (t : Bool) (P : Type 0) → Decides t P → (r : Option ℕ) (v u : ℕ) → SomeIff r P v → (P → v ≡ u) → r ≡ cond t (Some u) None
-pick true P d None v u h e = absurd (h (d.0 refl))
-pick true P d (Some x) v u h e = ap Some (h.1 ∙ e h.0)
-pick false P d None v u h e = refl
-pick false P d (Some x) v u h e = absurd (true≢false (sym (d.1 h.0)))
+-- two that are `Some v` just where P holds are one
+pub same_some : (r s : Option ℕ) (P : Type 0) (v : ℕ) → SomeIff r P v → SomeIff s P v → r ≡ s
+same_some None None P v h k = refl
+same_some None (Some y) P v h k = absurd (h k.0)
+same_some (Some x) None P v h k = absurd (k h.0)
+same_some (Some x) (Some y) P v h k = ap Some (h.1 ∙ sym k.1)
+
+-- a choice by a test of P is `Some` just where P holds
+chosen : (t : Bool) (P : Type 0) → Decides t P → (v u : ℕ) → (P → v ≡ u) → SomeIff (cond t (Some u) None) P v
+chosen true P d v u e = (d.0 refl, sym (e (d.0 refl)))
+chosen false P d v u e = λ p. true≢false (sym (d.1 p))
 
 -- the test that the code makes of each byte
 module _ (base : ℕ) where
@@ -42,13 +47,16 @@ own : IsNumeralModel (λ ds. all_digits ds ≡ true) (value 0)
 unfolding all_digits value
 own = numerals_by_fold _ (search rules) value (search rules)
 
+number_tells : (w : List ℕ) → Decides (ltb 0 (length w) && (all_digits w && leb (value 0 w) 65535)) (IsNumeral 10 w × (digits_value 10 w < 65536))
+number_tells w =
+    Decides-like _ (λ q. let e = own.same w q.1.0 in ((q.0, q.1.0), omega arith)) (λ p. let e = own.same w p.0.1 in (p.0.0, (p.0.1, omega arith)))
+    (Decides-and _ _ (Decides-ltb 0 (length w)) (Decides-and _ _ (own.to w, own.from w) (leb-true (value 0 w) 65535, le-leb (value 0 w) 65535)))
+
+pub number_reads : (w : List ℕ) → SomeIff (number_of w) (IsNumeral 10 w × (digits_value 10 w < 65536)) (digits_value 10 w)
+number_reads w = chosen _ _ (number_tells w) _ (value 0 w) (λ p. sym (own.same w p.0.1))
+
 pub decimal_read : (w : List ℕ) (r : Option ℕ) → SomeIff r (IsNumeral 10 w × (digits_value 10 w < 65536)) (digits_value 10 w) → r ≡ number_of w
-decimal_read w r h = pick _ _ tells r _ (value 0 w) h (λ p. sym (own.same w p.0.1))
-  where
-    tells : Decides (ltb 0 (length w) && (all_digits w && leb (value 0 w) 65535)) (IsNumeral 10 w × (digits_value 10 w < 65536))
-    tells =
-        Decides-like _ (λ q. let e = own.same w q.1.0 in ((q.0, q.1.0), omega arith)) (λ p. let e = own.same w p.0.1 in (p.0.0, (p.0.1, omega arith)))
-        (Decides-and _ _ (Decides-ltb 0 (length w)) (Decides-and _ _ (own.to w, own.from w) (leb-true (value 0 w) 65535, le-leb (value 0 w) 65535)))
+decimal_read w r h = same_some r (number_of w) _ _ h (number_reads w)
 
 -- four hexadecimal digits
 hex_digit_is : (x : ℕ) → hex_digit x ≡ cond (ltb (digit_value x) 16) (Some (digit_value x)) None
@@ -61,20 +69,21 @@ hex_of_all true true false t a b c d = refl
 hex_of_all true true true false a b c d = refl
 hex_of_all true true true true a b c d = refl
 
-hex_read : (a b c d : ℕ) (r : Option ℕ) → SomeIff r (IsNumeral 16 (a ∷ (b ∷ (c ∷ (d ∷ [])))) × (digits_value 16 (a ∷ (b ∷ (c ∷ (d ∷ [])))) < 65536)) (digits_value 16 (a ∷ (b ∷ (c ∷ (d ∷ []))))) → r ≡ hex_of (hex_digit a) (hex_digit b) (hex_digit c) (hex_digit d)
-hex_read a b c d r h =
+hex_tells : (a b c d : ℕ) → Decides (ltb (digit_value a) 16 && (ltb (digit_value b) 16 && (ltb (digit_value c) 16 && ltb (digit_value d) 16))) (IsNumeral 16 (a ∷ (b ∷ (c ∷ (d ∷ [])))) × (digits_value 16 (a ∷ (b ∷ (c ∷ (d ∷ [])))) < 65536))
+hex_tells a b c d =
+    Decides-like _ (λ q. ((omega arith, (q.0, (q.1.0, (q.1.1.0, (q.1.1.1, tt))))), omega arith)) (λ p. (p.0.1.0, (p.0.1.1.0, (p.0.1.1.1.0, p.0.1.1.1.1.0))))
+    (Decides-and _ _ (Decides-ltb (digit_value a) 16) (Decides-and _ _ (Decides-ltb (digit_value b) 16) (Decides-and _ _ (Decides-ltb (digit_value c) 16) (Decides-ltb (digit_value d) 16))))
+
+pub hex_reads : (a b c d : ℕ) → SomeIff (hex_of (hex_digit a) (hex_digit b) (hex_digit c) (hex_digit d)) (IsNumeral 16 (a ∷ (b ∷ (c ∷ (d ∷ [])))) × (digits_value 16 (a ∷ (b ∷ (c ∷ (d ∷ [])))) < 65536)) (digits_value 16 (a ∷ (b ∷ (c ∷ (d ∷ [])))))
+hex_reads a b c d =
     rw (hex_digit_is a, hex_digit_is b, hex_digit_is c, hex_digit_is d, hex_of_all)
-    (pick _ _ tells r _ _ h (λ p. omega arith))
-  where
-    tells : Decides (ltb (digit_value a) 16 && (ltb (digit_value b) 16 && (ltb (digit_value c) 16 && ltb (digit_value d) 16))) (IsNumeral 16 (a ∷ (b ∷ (c ∷ (d ∷ [])))) × (digits_value 16 (a ∷ (b ∷ (c ∷ (d ∷ [])))) < 65536))
-    tells =
-        Decides-like _ (λ q. ((omega arith, (q.0, (q.1.0, (q.1.1.0, (q.1.1.1, tt))))), omega arith)) (λ p. (p.0.1.0, (p.0.1.1.0, (p.0.1.1.1.0, p.0.1.1.1.1.0))))
-        (Decides-and _ _ (Decides-ltb (digit_value a) 16) (Decides-and _ _ (Decides-ltb (digit_value b) 16) (Decides-and _ _ (Decides-ltb (digit_value c) 16) (Decides-ltb (digit_value d) 16))))
+    (chosen _ _ (hex_tells a b c d) _ _ (λ p. omega arith))
 
 -- a letter by its number: d is what stands behind the sign
 pub by_number : (w d : List ℕ) → d ≡ drop 2 w → length w ≡ 6 → get_or w 0 0 ≡ 85 → get_or w 1 0 ≡ 43 → (r : Option ℕ) → SomeIff r (IsNumeral 16 d × (digits_value 16 d < 65536)) (digits_value 16 d) → r ≡ letter_of w
 unfolding letter_of
 by_number w d b e u p r h =
-    let l = b ∙ (drop_more w 2 0 (omega arith) ∙ ap (λ k. get_or w 2 0 ∷ k) (drop_more w 3 0 (omega arith) ∙ ap (λ k. get_or w 3 0 ∷ k) (drop_more w 4 0 (omega arith) ∙ ap (λ k. get_or w 4 0 ∷ k) (drop_more w 5 0 (omega arith) ∙ ap (λ k. get_or w 5 0 ∷ k) (drop_all 6 w (omega arith)))))) in
+    let l = b ∙ (drop_more w 2 0 (omega arith) ∙ ap (λ k. get_or w 2 0 ∷ k) (drop_more w 3 0 (omega arith)
+    ∙ ap (λ k. get_or w 3 0 ∷ k) (drop_more w 4 0 (omega arith) ∙ ap (λ k. get_or w 4 0 ∷ k) (drop_more w 5 0 (omega arith) ∙ ap (λ k. get_or w 5 0 ∷ k) (drop_all 6 w (omega arith)))))) in
     rw (ne_eqb (length w) 1 (omega arith), eq-eqb (length w) 6 e, eq-eqb (get_or w 0 0) 85 u, eq-eqb (get_or w 1 0) 43 p)
-    (hex_read (get_or w 2 0) (get_or w 3 0) (get_or w 4 0) (get_or w 5 0) r (subst (λ (k : List ℕ). SomeIff r (IsNumeral 16 k × (digits_value 16 k < 65536)) (digits_value 16 k)) l h))
+    (same_some r _ _ _ (subst (λ (k : List ℕ). SomeIff r (IsNumeral 16 k × (digits_value 16 k < 65536)) (digits_value 16 k)) l h) (hex_reads (get_or w 2 0) (get_or w 3 0) (get_or w 4 0) (get_or w 5 0)))

@@ -1,22 +1,25 @@
 -- What a line says.
-use Rattle.std.proofs.Common.{◌≡◌, ℕ, ◌<◌, List, [], ◌∷◌, length, codes, Some, None, Option, MatchOption, refl, ap, arith}
-use Rattle.texts.specs.declared.line.Command.{Command}
-use Rattle.texts.specs.declared.line.Line.{Line}
-use Rattle.texts.specs.declared.line.Line.TheVariants.{Says, Unreadable}
-use Rattle.texts.specs.Lines.{asked, blank, command, line_of, meaning, said}
-use Rattle.texts.specs.Parts.{behind_word, words}
+use Rattle.std.proofs.Common.{◌≡◌, ℕ, ◌<◌, List, [], ◌∷◌, length, get_or, refl, arith}
+use Rattle.texts.specs.Lines.{blank, command_of, meaning_of, said}
 
-pub blank_line : (xs : List ℕ) → length xs ≡ 0 → line_of xs ≡ blank
-unfolding line_of
+pub blank_line : (xs : List ℕ) → length xs ≡ 0 → meaning_of xs ≡ blank
+unfolding meaning_of
 blank_line [] e = refl
 blank_line (x ∷ xs) e = absurd (omega arith)
 
-pub some_line : (xs : List ℕ) → 0 < length xs → line_of xs ≡ asked (behind_word (codes "key") xs) (command (words xs))
-unfolding line_of
+pub some_line : (xs : List ℕ) → 0 < length xs → meaning_of xs ≡ said (command_of xs)
+unfolding meaning_of
 some_line [] l = absurd (omega arith)
 some_line (x ∷ xs) l = refl
 
--- what `map_or` makes of what was read
-pub mapped : (o : Option Command) (r : Line) (Q : Command → Type 0) → MatchOption o (r ≡ Unreadable) Q → ((c : Command) → Q c → r ≡ Says c) → meaning r ≡ said o
-mapped None r Q h f = ap meaning h
-mapped (Some c) r Q h f = ap meaning (f c h)
+-- six bytes one by one
+pub six : (w : List ℕ) (a b c d e f : ℕ) → length w ≡ 6 → (get_or w 0 0 ≡ a) × (get_or w 1 0 ≡ b) × (get_or w 2 0 ≡ c) →
+    (get_or w 3 0 ≡ d) × (get_or w 4 0 ≡ e) × (get_or w 5 0 ≡ f) → w ≡ a ∷ (b ∷ (c ∷ (d ∷ (e ∷ (f ∷ [])))))
+six [] a b c d e f l h k = absurd (omega arith)
+six (u ∷ []) a b c d e f l h k = absurd (omega arith)
+six (u ∷ (v ∷ [])) a b c d e f l h k = absurd (omega arith)
+six (u ∷ (v ∷ (w ∷ []))) a b c d e f l h k = absurd (omega arith)
+six (u ∷ (v ∷ (w ∷ (x ∷ [])))) a b c d e f l h k = absurd (omega arith)
+six (u ∷ (v ∷ (w ∷ (x ∷ (y ∷ []))))) a b c d e f l h k = absurd (omega arith)
+six (u ∷ (v ∷ (w ∷ (x ∷ (y ∷ (z ∷ [])))))) a b c d e f l h k = rw (h.0, h.1, h.2, k.0, k.1, k.2)
+six (u ∷ (v ∷ (w ∷ (x ∷ (y ∷ (z ∷ (t ∷ r))))))) a b c d e f l h k = absurd (omega arith)

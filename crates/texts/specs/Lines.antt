@@ -1,13 +1,18 @@
 -- What a line says.
 use Rattle.std.specs.Prelude.{ℕ, cond, List, [], ◌∷◌, Some, None, codes, Option, nat_lt}
+use Rattle.std.specs.Option.{option_map}
 use Rattle.std.specs.Str.{bytes_eq}
 use Rattle.table.specs.declared.piece.Weights.{Weights}
 use Rattle.texts.specs.declared.line.Command.{Command}
-use Rattle.texts.specs.declared.line.Command.TheVariants.{SetLetter, AddPair}
+use Rattle.texts.specs.declared.line.Command.TheVariants.{Enter, Find, Key, Name}
+use Rattle.texts.specs.declared.line.Entry.{Entry}
+use Rattle.texts.specs.declared.line.Entry.TheVariants.{Letter, Pair}
 use Rattle.texts.specs.declared.line.Line.{Line}
-use Rattle.texts.specs.declared.line.Line.TheVariants.{Blank, Says, Key, Unreadable}
+use Rattle.texts.specs.declared.line.Line.TheVariants.{Blank, Says, Unreadable}
+use Rattle.texts.specs.declared.line.Word.{Word}
+use Rattle.texts.specs.declared.line.Word.TheVariants as word
 use Rattle.texts.specs.Numerals.{letter_of, number_of}
-use Rattle.texts.specs.Parts.{behind_word, words}
+use Rattle.texts.specs.Parts.{behind, front, words}
 
 -- three weights, where all are numbers
 abbrev pub weights_from : Option ℕ → Option ℕ → Option ℕ → Option Weights
@@ -25,59 +30,89 @@ three_weights (a ∷ (b ∷ (c ∷ []))) = weights_from (number_of a) (number_of
 three_weights (a ∷ (b ∷ (c ∷ (d ∷ ws)))) = None
 
 -- a letter's weights, where the letter is one of a table's 256
-abbrev pub letter_command : Option ℕ → Option Weights → Option Command
-letter_command None w = None
-letter_command (Some a) None = None
-letter_command (Some a) (Some w) = cond (nat_lt a 256) (Some (SetLetter a w)) None
+abbrev pub letter_weighs : Option ℕ → Option Weights → Option Entry
+letter_weighs None w = None
+letter_weighs (Some a) None = None
+letter_weighs (Some a) (Some w) = cond (nat_lt a 256) (Some (Letter a w)) None
 
 -- what stands behind the word letter
-abbrev pub letter_line : List (List ℕ) → Option Command
-letter_line [] = None
-letter_line (x ∷ ws) = letter_command (letter_of x) (three_weights ws)
+abbrev pub letter_entry : List (List ℕ) → Option Entry
+letter_entry [] = None
+letter_entry (x ∷ ws) = letter_weighs (letter_of x) (three_weights ws)
 
 -- a pair and its weights; whether its letters are known is for the table to say
-abbrev pub pair_command : Option ℕ → Option ℕ → Option Weights → Option Command
-pair_command None b w = None
-pair_command (Some a) None w = None
-pair_command (Some a) (Some b) None = None
-pair_command (Some a) (Some b) (Some w) = Some (AddPair (record { first = a; second = b; weights = w }))
+abbrev pub pair_weighs : Option ℕ → Option ℕ → Option Weights → Option Entry
+pair_weighs None b w = None
+pair_weighs (Some a) None w = None
+pair_weighs (Some a) (Some b) None = None
+pair_weighs (Some a) (Some b) (Some w) = Some (Pair (record { first = a; second = b; weights = w }))
 
 -- what stands behind the word pair
-abbrev pub pair_line : List (List ℕ) → Option Command
-pair_line [] = None
-pair_line (x ∷ []) = None
-pair_line (x ∷ (y ∷ ws)) = pair_command (letter_of x) (letter_of y) (three_weights ws)
+abbrev pub pair_entry : List (List ℕ) → Option Entry
+pair_entry [] = None
+pair_entry (x ∷ []) = None
+pair_entry (x ∷ (y ∷ ws)) = pair_weighs (letter_of x) (letter_of y) (three_weights ws)
 
--- the first word says which line it is
-abbrev pub command : List (List ℕ) → Option Command
-command [] = None
-command (w ∷ ws) = cond (bytes_eq w (codes "letter")) (letter_line ws) (cond (bytes_eq w (codes "pair")) (pair_line ws) None)
+-- what a line may say, in plain values: an entry for the table; names that begin so, or the key of a name, are asked for; one
+-- name more
+pub data Saying : Type 0 where
+  enters : Entry → Saying
+  finds : List ℕ → Saying
+  wants_key : List ℕ → Saying
+  names : List ℕ → Saying
 
--- what a line may mean: nothing, a command, a question for the key of a name; or it can't be read
+-- the text behind the first word and one space
+abbrev pub text_of : Option (List ℕ) → List ℕ
+text_of None = []
+text_of (Some text) = text
+
+-- the words at the front of a line that say what it is
+abbrev pub word_of : List ℕ → Option Word
+word_of w =
+    cond (bytes_eq w (codes "letter")) (Some word.Letter)
+    (cond (bytes_eq w (codes "pair")) (Some word.Pair)
+    (cond (bytes_eq w (codes "find")) (Some word.Find)
+    (cond (bytes_eq w (codes "key")) (Some word.Key)
+    (cond (bytes_eq w (codes "name")) (Some word.Name) None))))
+
+-- what a line says by its first word, and by the text behind it; a line with none of these words is a name, whole
+abbrev pub by_word : Option Word → (text line : List ℕ) → Option Saying
+by_word (Some word.Letter) text l = option_map enters (letter_entry (words text))
+by_word (Some word.Pair) text l = option_map enters (pair_entry (words text))
+by_word (Some word.Find) text l = Some (finds text)
+by_word (Some word.Key) text l = Some (wants_key text)
+by_word (Some word.Name) text l = Some (names text)
+by_word None text l = Some (names l)
+
+-- what a line says that is not empty
+abbrev pub command_of : List ℕ → Option Saying
+command_of l = by_word (word_of (front 32 l)) (text_of (behind 32 l)) l
+
+-- what any line may mean: nothing, or what it says; or it can't be read
 pub data Meaning : Type 0 where
   blank : Meaning
-  says : Command → Meaning
-  asks_key : List ℕ → Meaning
+  says : Saying → Meaning
   unreadable : Meaning
 
--- what a line that was read means
+-- what is no command can't be read
+abbrev pub said : Option Saying → Meaning
+said None = unreadable
+said (Some s) = says s
+
+-- what a line means
+unfoldable pub meaning_of : List ℕ → Meaning
+meaning_of [] = blank
+meaning_of (x ∷ xs) = said (command_of (x ∷ xs))
+
+-- a command in plain values
+abbrev pub saying : Command → Saying
+saying (Enter e) = enters e
+saying (Find n) = finds n.now
+saying (Key n) = wants_key n.now
+saying (Name n) = names n.now
+
+-- a line that was read in plain values
 abbrev pub meaning : Line → Meaning
 meaning Blank = blank
-meaning (Says c) = says c
-meaning (Key n) = asks_key n.now
+meaning (Says c) = says (saying c)
 meaning Unreadable = unreadable
-
--- what is no command can't be read
-abbrev pub said : Option Command → Meaning
-said None = unreadable
-said (Some c) = says c
-
--- what stands behind the word key is a name, whole; else the line is a command
-abbrev pub asked : Option (List ℕ) → Option Command → Meaning
-asked None c = said c
-asked (Some n) c = asks_key n
-
--- what a line says
-unfoldable pub line_of : List ℕ → Meaning
-line_of [] = blank
-line_of (x ∷ xs) = asked (behind_word (codes "key") (x ∷ xs)) (command (words (x ∷ xs)))

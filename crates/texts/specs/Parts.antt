@@ -24,9 +24,12 @@ words = parts 32
 abbrev pub without_return : List ℕ → List ℕ
 without_return l = cond (slice_index l (length l - 1) == 13) (take (length l - 1) l) l
 
--- what stands behind a word and one space at the front of a line; nothing where the line is that word alone
-unfoldable pub behind_word : (word line : List ℕ) → Option (List ℕ)
-behind_word [] [] = Some []
-behind_word [] (x ∷ xs) = cond (x == 32) (Some xs) None
-behind_word (w ∷ ws) [] = None
-behind_word (w ∷ ws) (x ∷ xs) = cond (w == x) (behind_word ws xs) None
+-- a text up to its first mark
+unfoldable pub front : (mark : ℕ) → List ℕ → List ℕ
+front m [] = []
+front m (x ∷ xs) = cond (x == m) [] (x ∷ front m xs)
+
+-- what stands behind its first mark, where it has one
+unfoldable pub behind : (mark : ℕ) → List ℕ → Option (List ℕ)
+behind m [] = None
+behind m (x ∷ xs) = cond (x == m) (Some xs) (behind m xs)

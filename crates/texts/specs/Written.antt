@@ -1,4 +1,4 @@
--- How letters, commands, numbers, changes and messages are written.
+-- How letters, entries, commands, numbers, changes and messages are written.
 use Rattle.std.specs.Prelude.{ℕ, ◌/◌, ◌%◌, true, cond, ◌&&◌, List, [], ◌∷◌, ◌++◌, codes, decimal, nat_le}
 use Rattle.std.specs.Fmt.{digit_glyph}
 use Rattle.keys.specs.declared.level.Level.{Level}
@@ -15,9 +15,10 @@ use Rattle.table.specs.declared.fault.Refusal.TheVariants.{Letters, Shape, TooMa
 use Rattle.table.specs.declared.piece.Weights.{Weights}
 use Rattle.table.specs.Refusals.{refusal_number, refusal_place}
 use Rattle.texts.specs.declared.fault.Fault.{Fault}
-use Rattle.texts.specs.declared.fault.Fault.TheVariants.{Table, Name, Text}
-use Rattle.texts.specs.declared.line.Command.{Command}
-use Rattle.texts.specs.declared.line.Command.TheVariants.{SetLetter, AddPair}
+use Rattle.texts.specs.declared.fault.Fault.TheVariants.{Table, Name, Question, Text, Again}
+use Rattle.texts.specs.declared.line.Entry.{Entry}
+use Rattle.texts.specs.declared.line.Entry.TheVariants as entry
+use Rattle.texts.specs.Lines.{Saying, enters, finds, names, wants_key}
 
 -- a letter is written as itself where it can be seen, else by its number, in large hexadecimal digits
 abbrev pub letter_text : ℕ → List ℕ
@@ -29,10 +30,17 @@ letter_text a =
 abbrev pub weights_text : Weights → List ℕ
 weights_text w = decimal w.primary ++ (codes " " ++ (decimal w.secondary ++ (codes " " ++ decimal w.tertiary)))
 
+-- an entry, as the line that says it
+abbrev pub entry_text : Entry → List ℕ
+entry_text (entry.Letter a w) = codes "letter " ++ (letter_text a ++ (codes " " ++ weights_text w))
+entry_text (entry.Pair p) = codes "pair " ++ (letter_text p.first ++ (codes " " ++ (letter_text p.second ++ (codes " " ++ weights_text p.weights))))
+
 -- a command, as the line that says it
-abbrev pub command_text : Command → List ℕ
-command_text (SetLetter a w) = codes "letter " ++ (letter_text a ++ (codes " " ++ weights_text w))
-command_text (AddPair p) = codes "pair " ++ (letter_text p.first ++ (codes " " ++ (letter_text p.second ++ (codes " " ++ weights_text p.weights))))
+abbrev pub saying_text : Saying → List ℕ
+saying_text (enters e) = entry_text e
+saying_text (finds n) = codes "find " ++ n
+saying_text (wants_key n) = codes "key " ++ n
+saying_text (names n) = codes "name " ++ n
 
 -- numbers with one space between
 unfoldable pub numbers_text : List ℕ → List ℕ
@@ -44,13 +52,17 @@ numbers_text (x ∷ (y ∷ xs)) = decimal x ++ (codes " " ++ numbers_text (y ∷
 abbrev pub fault_number : Fault → ℕ
 fault_number (Table why) = refusal_number why
 fault_number (Name why) = name_refusal_number why
+fault_number (Question why) = name_refusal_number why
 fault_number (Text line) = 3
+fault_number (Again line) = 3
 
 -- its place: the table's, how long the name is, or the line
 abbrev pub fault_place : Fault → ℕ
 fault_place (Table why) = refusal_place why
 fault_place (Name why) = name_refusal_place why
+fault_place (Question why) = name_refusal_place why
 fault_place (Text line) = line
+fault_place (Again line) = line
 
 -- what is wrong with a table
 abbrev pub refusal_sentence : Refusal → List ℕ
@@ -64,11 +76,17 @@ refusal_sentence (Twice k) = codes "these two letters are a pair already"
 abbrev pub name_sentence : NameRefusal → List ℕ
 name_sentence (TooLong k) = codes "a name has at most 1000 letters"
 
+-- what is wrong with a name that is asked about
+abbrev pub question_sentence : NameRefusal → List ℕ
+question_sentence (TooLong k) = codes "a name that is asked about has at most 1000 letters"
+
 -- what is wrong
 abbrev pub sentence_of : Fault → List ℕ
 sentence_of (Table why) = refusal_sentence why
 sentence_of (Name why) = name_sentence why
-sentence_of (Text line) = codes "a line is 'letter X a b c', 'pair X Y a b c' or 'key X', with letters up to U+00FF and weights up to 65535"
+sentence_of (Question why) = question_sentence why
+sentence_of (Text line) = codes "a line that begins so is 'letter X a b c' or 'pair X Y a b c', one space between, letters up to U+00FF, weights up to 65535; a name that begins so needs 'name ' in front"
+sentence_of (Again line) = codes "this letter has a line already"
 
 -- the message: number, place and sentence
 abbrev pub fault_text : Fault → List ℕ

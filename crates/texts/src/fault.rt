@@ -1,7 +1,6 @@
 // Why a line was turned away.
 ghost use Rattle.std.specs.Prelude.{◌≡◌, Some};
-ghost use Rattle.texts.specs.declared.fault.Fault.TheVariants.{Name, Table};
-ghost use Rattle.texts.specs.Written.{fault_number, fault_place, fault_text, name_sentence, refusal_sentence, sentence_of};
+ghost use Rattle.texts.specs.Written.{fault_number, fault_place, fault_text, name_sentence, question_sentence, refusal_sentence, sentence_of};
 
 use keys::NameRefusal;
 use std::fmt;
@@ -11,21 +10,25 @@ use table::Refusal;
 pub enum Fault {
     // The table would be none with it.
     Table(Refusal),
-    // The name that it asks about is turned away.
+    // Its name is turned away.
     Name(NameRefusal),
+    // The name that it asks for the key of, or what it asks with, is turned away.
+    Question(NameRefusal),
     // It can't be read: its line, counted from 0.
     Text(usize),
+    // It weighs a letter that an earlier line has weighed: its line, counted from 0.
+    Again(usize),
 }
 
 impl Fault {
-    // The number that is reported: 1 a table, 2 a name, 3 a text. The message says it as a number.
+    // The number that is reported: 1 a table, 2 a name, 3 a text.
     pub fn number(self) -> u64
         ensures { result ≡ fault_number self }
     {
         match self {
             Fault::Table(why) => why.number(),
-            Fault::Name(why) => why.number(),
-            Fault::Text(_) => 3,
+            Fault::Name(why) | Fault::Question(why) => why.number(),
+            Fault::Text(_) | Fault::Again(_) => 3,
         }
     }
 
@@ -35,8 +38,8 @@ impl Fault {
     {
         match self {
             Fault::Table(why) => why.place(),
-            Fault::Name(why) => why.place(),
-            Fault::Text(line) => line,
+            Fault::Name(why) | Fault::Question(why) => why.place(),
+            Fault::Text(line) | Fault::Again(line) => line,
         }
     }
 
@@ -47,25 +50,11 @@ impl Fault {
         match self {
             Fault::Table(why) => refusal_sentence(why),
             Fault::Name(why) => name_sentence(why),
+            Fault::Question(why) => question_sentence(why),
             Fault::Text(_) =>
-                "a line is 'letter X a b c', 'pair X Y a b c' or 'key X', with letters up to U+00FF and weights up to 65535",
+                "a line that begins so is 'letter X a b c' or 'pair X Y a b c', one space between, letters up to U+00FF, weights up to 65535; a name that begins so needs 'name ' in front",
+            Fault::Again(_) => "this letter has a line already",
         }
-    }
-}
-
-impl From<Refusal> for Fault {
-    ghost from_gives = { λ refusal r. r ≡ Table refusal };
-
-    fn from(refusal: Refusal) -> Fault {
-        Fault::Table(refusal)
-    }
-}
-
-impl From<NameRefusal> for Fault {
-    ghost from_gives = { λ refusal r. r ≡ Name refusal };
-
-    fn from(refusal: NameRefusal) -> Fault {
-        Fault::Name(refusal)
     }
 }
 
@@ -86,6 +75,14 @@ fn name_sentence(why: NameRefusal) -> &'static str
 {
     match why {
         NameRefusal::TooLong(_) => "a name has at most 1000 letters",
+    }
+}
+
+fn question_sentence(why: NameRefusal) -> &'static str
+    ensures { result.now ≡ question_sentence why }
+{
+    match why {
+        NameRefusal::TooLong(_) => "a name that is asked about has at most 1000 letters",
     }
 }
 

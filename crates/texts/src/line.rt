@@ -1,28 +1,40 @@
 // What a line says.
 ghost use Rattle.std.specs.Prelude.{◌≡◌};
-ghost use Rattle.texts.specs.Lines.{command, letter_line, line_of, meaning, pair_line, three_weights};
+ghost use Rattle.std.specs.Option.{option_map};
+ghost use Rattle.texts.specs.Lines.{command_of, letter_entry, meaning, meaning_of, pair_entry, saying, three_weights, word_of};
 ghost use Rattle.texts.specs.Parts.{words};
 
 use crate::numeral::{letter_number, number};
-use crate::part::{Parts, behind_word};
+use crate::part::{Cut, Parts, first_part};
 use table::{Pair, Weights};
 
+// What a line of a table enters.
 #[derive(Clone, Copy, PartialEq, Eq, Debug)]
-pub enum Command {
+pub enum Entry {
     // `letter X a b c`: what a letter weighs.
-    SetLetter(u8, Weights),
+    Letter(u8, Weights),
     // `pair X Y a b c`: two letters that are one together.
-    AddPair(Pair),
+    Pair(Pair),
+}
+
+#[derive(Clone, Copy, PartialEq, Eq, Debug)]
+pub enum Command<'a> {
+    // One entry more for the table.
+    Enter(Entry),
+    // `find X`: asks for the names that begin so.
+    Find(&'a [u8]),
+    // `key X`: asks for the sort key of a name.
+    Key(&'a [u8]),
+    // `name X`, and every line that begins with no such word: one name more.
+    Name(&'a [u8]),
 }
 
 #[derive(Clone, Copy, PartialEq, Eq, Debug)]
 pub enum Line<'a> {
     // Nothing stands in it.
     Blank,
-    Says(Command),
-    // `key X`: asks for the sort key of a name.
-    Key(&'a [u8]),
-    // It has none of these forms.
+    Says(Command<'a>),
+    // It begins with the word of an entry, and has not its form.
     Unreadable,
 }
 
@@ -30,48 +42,80 @@ impl<'a> Line<'a> {
     // What a line says, without its end.
     #[tactic(auto, using(crate::proofs::Saying::blank_line, crate::proofs::Saying::some_line))]
     pub fn read(line: &'a [u8]) -> Line<'a>
-        ensures { meaning result ≡ line_of line.now }
+        ensures { meaning result ≡ meaning_of line.now }
     {
         if line.is_empty() {
             return Line::Blank;
         }
-        if let Some(name) = behind_word(line, b"key") {
-            return Line::Key(name);
+        match Command::read(line) {
+            Some(command) => Line::Says(command),
+            None => Line::Unreadable,
         }
-        // A closure, since the bare `Line::Says` gets no proof here: what it takes has no lifetime, and a `Line` has one.
-        read_command(line).map_or(Line::Unreadable, |command| Line::Says(command))
     }
 }
 
-// A line that begins with a word that says what it is.
-fn read_command(line: &[u8]) -> Option<Command>
-    ensures { result ≡ command (words line.now) }
-{
-    let mut words = Parts::new(line, b' ');
-    match words.next()? {
-        b"letter" => read_letter(words),
-        b"pair" => read_pair(words),
-        _ => None,
+impl<'a> Command<'a> {
+    // What a line says that is not empty, by its first word; nothing where it can't be read.
+    fn read(line: &'a [u8]) -> Option<Command<'a>>
+        ensures { option_map saying result ≡ command_of line.now }
+    {
+        let Cut { part: word, rest } = first_part(line, b' ');
+        let text = rest.unwrap_or(b"");
+        match Word::of(word) {
+            Some(Word::Letter) => Some(Command::Enter(read_letter(text)?)),
+            Some(Word::Pair) => Some(Command::Enter(read_pair(text)?)),
+            Some(Word::Find) => Some(Command::Find(text)),
+            Some(Word::Key) => Some(Command::Key(text)),
+            Some(Word::Name) => Some(Command::Name(text)),
+            None => Some(Command::Name(line)),
+        }
+    }
+}
+
+// A word at the front of a line that says what the line is.
+#[derive(Clone, Copy)]
+enum Word {
+    Letter,
+    Pair,
+    Find,
+    Key,
+    Name,
+}
+
+impl Word {
+    fn of(word: &[u8]) -> Option<Word>
+        ensures { result ≡ word_of word.now }
+    {
+        match word {
+            b"letter" => Some(Word::Letter),
+            b"pair" => Some(Word::Pair),
+            b"find" => Some(Word::Find),
+            b"key" => Some(Word::Key),
+            b"name" => Some(Word::Name),
+            _ => None,
+        }
     }
 }
 
 // A letter and its weights.
-fn read_letter(mut words: Parts) -> Option<Command>
-    ensures { result ≡ letter_line words.entry }
+fn read_letter(text: &[u8]) -> Option<Entry>
+    ensures { result ≡ letter_entry (words text.now) }
 {
+    let mut words = Parts::new(text, b' ');
     let letter = letter_number(words.next()?)?;
     let letter = u8::try_from(letter).ok()?;
-    Some(Command::SetLetter(letter, read_weights(words)?))
+    Some(Entry::Letter(letter, read_weights(words)?))
 }
 
 // Two letters and what they weigh together.
-fn read_pair(mut words: Parts) -> Option<Command>
-    ensures { result ≡ pair_line words.entry }
+fn read_pair(text: &[u8]) -> Option<Entry>
+    ensures { result ≡ pair_entry (words text.now) }
 {
+    let mut words = Parts::new(text, b' ');
     let first = letter_number(words.next()?)?;
     let second = letter_number(words.next()?)?;
     let weights = read_weights(words)?;
-    Some(Command::AddPair(Pair {
+    Some(Entry::Pair(Pair {
         first,
         second,
         weights,

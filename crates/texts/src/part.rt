@@ -2,13 +2,13 @@
 ghost use Rattle.std.specs.Prelude.{◌≡◌, ℕ, ◌+◌, ◌≤◌, List, ◌∷◌, length};
 ghost use Rattle.std.specs.Iterator.{YieldsFirstRef, item_count};
 ghost use Rattle.std.specs.Option.{option_map};
-ghost use Rattle.texts.specs.Parts.{behind_word, parts, parts_left, without_return};
+ghost use Rattle.texts.specs.Parts.{behind, front, parts, parts_left, without_return};
 
 use std::marker::Model;
 
 // A text cut at its first mark. `Parts` goes on from there.
 #[derive(Clone, Copy)]
-pub struct Cut<'a> {
+pub(crate) struct Cut<'a> {
     // Up to the first mark.
     pub part: &'a [u8],
     // What stands behind that mark, where there is one.
@@ -16,8 +16,9 @@ pub struct Cut<'a> {
 }
 
 // The first part of a text and the rest of it.
-pub fn first_part<'a>(text: &'a [u8], mark: u8) -> Cut<'a>
-    ensures { parts mark text.now ≡ result.part.now ∷ parts_left mark (option_map (λ x. x.now) result.rest) }
+pub(crate) fn first_part<'a>(text: &'a [u8], mark: u8) -> Cut<'a>
+    ensures part { result.part.now ≡ front mark text.now }
+    ensures rest { option_map (λ x. x.now) result.rest ≡ behind mark text.now }
 {
     match text.iter().position(|byte| *byte == mark) {
         Some(place) => Cut {
@@ -65,6 +66,7 @@ impl<'a> Iterator for Parts<'a> {
 
     ghost remaining = { item_count (λ left. left) };
 
+    #[tactic(auto, using(crate::proofs::Cutting::parts_first))]
     fn next(&mut self) -> Option<&'a [u8]> {
         let cut = first_part(self.rest?, self.mark);
         self.rest = cut.rest;
@@ -77,16 +79,4 @@ pub fn without_return<'a>(line: &'a [u8]) -> &'a [u8]
     ensures { result.now ≡ without_return line.now }
 {
     line.strip_suffix(b"\r").unwrap_or(line)
-}
-
-// What stands behind a word and one space at the front of a line; nothing where the line is that word alone.
-pub(crate) fn behind_word<'a>(line: &'a [u8], word: &[u8]) -> Option<&'a [u8]>
-    ensures { option_map (λ x. x.now) result ≡ behind_word word.now line.now }
-{
-    let rest = line.strip_prefix(word)?;
-    match rest {
-        [] => Some(rest),
-        [b' ', name @ ..] => Some(name),
-        _ => None,
-    }
 }

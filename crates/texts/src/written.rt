@@ -1,8 +1,8 @@
-// Letters, commands, the numbers of keys and what a newer table changes, as they are written.
+// Letters, entries, the numbers of keys and what a newer table changes, as they are written.
 ghost use Rattle.std.specs.Prelude.{◌≡◌, Some};
-ghost use Rattle.texts.specs.Written.{change_text, command_text, letter_text, level_number, numbers_text, piece_text, weights_text};
+ghost use Rattle.texts.specs.Written.{change_text, entry_text, letter_text, level_number, numbers_text, piece_text, weights_text};
 
-use crate::line::Command;
+use crate::line::Entry;
 use keys::Level;
 use order::{Change, Piece};
 use std::fmt;
@@ -10,7 +10,7 @@ use table::Weights;
 
 // A letter, as itself where it can be seen and else as `U+00FC`.
 #[derive(Clone, Copy)]
-pub struct Letter(pub u16);
+struct Letter(u16);
 
 impl fmt::Display for Letter {
     ghost output = { λ x. Some (letter_text x.0) };
@@ -24,17 +24,18 @@ impl fmt::Display for Letter {
     }
 }
 
-impl fmt::Display for Command {
-    ghost output = { λ x. Some (command_text x) };
+// As the line that says it.
+impl fmt::Display for Entry {
+    ghost output = { λ x. Some (entry_text x) };
 
     fn fmt<W: fmt::Write>(&self, f: &mut fmt::Formatter<W>) -> fmt::Result {
         match *self {
-            Command::SetLetter(letter, weights) => {
+            Entry::Letter(letter, weights) => {
                 let letter = Letter(u16::from(letter));
                 let weights = Levels(weights);
                 write!(f, "letter {letter} {weights}")
             }
-            Command::AddPair(pair) => {
+            Entry::Pair(pair) => {
                 let first = Letter(pair.first);
                 let second = Letter(pair.second);
                 let weights = Levels(pair.weights);

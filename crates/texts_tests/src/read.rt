@@ -1,7 +1,7 @@
 // What lines say.
 use std::process::Abort;
 use table::{Pair, Weights};
-use texts::{Command, Line, Parts, without_return};
+use texts::{Command, Entry, Line, Parts, without_return};
 
 const ONE: Weights = Weights {
     primary: 1,
@@ -10,15 +10,15 @@ const ONE: Weights = Weights {
 };
 
 fn letter(letter: u8, weights: Weights) -> Line<'static> {
-    Line::Says(Command::SetLetter(letter, weights))
+    Line::Says(Command::Enter(Entry::Letter(letter, weights)))
 }
 
 fn pair(first: u16, second: u16) -> Line<'static> {
-    Line::Says(Command::AddPair(Pair {
+    Line::Says(Command::Enter(Entry::Pair(Pair {
         first,
         second,
         weights: ONE,
-    }))
+    })))
 }
 
 // A line, and what it says.
@@ -78,23 +78,66 @@ fn pairs(rt: HostRuntime) {
     );
 }
 
-// What stands behind the word and one space is the name, as it is.
+fn find(ask: &[u8]) -> Line<'_> {
+    Line::Says(Command::Find(ask))
+}
+
+fn key(name: &[u8]) -> Line<'_> {
+    Line::Says(Command::Key(name))
+}
+
+fn name(name: &[u8]) -> Line<'_> {
+    Line::Says(Command::Name(name))
+}
+
+// What stands behind the word and one space is taken as it is.
 #[test]
-fn keys(rt: HostRuntime) {
+fn questions(rt: HostRuntime) {
     hold(
         &rt,
         &[
-            Case(b"key cab", Line::Key(b"cab")),
-            Case(b"key", Line::Key(b"")),
-            Case(b"key ", Line::Key(b"")),
-            Case(b"key  a b ", Line::Key(b" a b ")),
-            Case(b"key letter a 1 2 3", Line::Key(b"letter a 1 2 3")),
-            Case(b"key \x00\xff\r", Line::Key(b"\x00\xff\r")),
-            Case(b"keys", Line::Unreadable),
-            Case(b"ke", Line::Unreadable),
-            Case(b"Key a", Line::Unreadable),
-            Case(b" key a", Line::Unreadable),
-            Case(b"key\ta", Line::Unreadable),
+            Case(b"key cab", key(b"cab")),
+            Case(b"key", key(b"")),
+            Case(b"key ", key(b"")),
+            Case(b"key  a b ", key(b" a b ")),
+            Case(b"key letter a 1 2 3", key(b"letter a 1 2 3")),
+            Case(b"key \x00\xff\r", key(b"\x00\xff\r")),
+            Case(b"find cab", find(b"cab")),
+            Case(b"find", find(b"")),
+            Case(b"find ", find(b"")),
+            Case(b"find  c ", find(b" c ")),
+            Case(b"find find", find(b"find")),
+        ],
+    );
+}
+
+// A line that begins with none of the words is a name, with all that stands in it.
+#[test]
+fn names(rt: HostRuntime) {
+    hold(
+        &rt,
+        &[
+            Case(b"name cab", name(b"cab")),
+            Case(b"name", name(b"")),
+            Case(b"name ", name(b"")),
+            Case(b"name  cab ", name(b" cab ")),
+            Case(b"name find cab", name(b"find cab")),
+            Case(b"name name", name(b"name")),
+            Case(b"cab", name(b"cab")),
+            Case(b" ", name(b" ")),
+            Case(b"  cab ", name(b"  cab ")),
+            Case(b" key a", name(b" key a")),
+            Case(b"keys", name(b"keys")),
+            Case(b"ke", name(b"ke")),
+            Case(b"Key a", name(b"Key a")),
+            Case(b"key\ta", name(b"key\ta")),
+            Case(b"finder", name(b"finder")),
+            Case(b"letters a 1 2 3", name(b"letters a 1 2 3")),
+            Case(b"Letter a 1 2 3", name(b"Letter a 1 2 3")),
+            Case(b" letter a 1 2 3", name(b" letter a 1 2 3")),
+            Case(b"run d z s 45 1 1", name(b"run d z s 45 1 1")),
+            Case(b"\x00", name(b"\x00")),
+            Case(b"\r", name(b"\r")),
         ],
     );
 }
@@ -106,9 +149,6 @@ fn unreadable(rt: HostRuntime) {
         &[
             Case(b"letter", Line::Unreadable),
             Case(b"letter ", Line::Unreadable),
-            Case(b" letter a 1 2 3", Line::Unreadable),
-            Case(b"Letter a 1 2 3", Line::Unreadable),
-            Case(b"letters a 1 2 3", Line::Unreadable),
             Case(b"letter ab 1 2 3", Line::Unreadable),
             Case(b"letter  1 2 3", Line::Unreadable),
             Case(b"letter a  1 2 3", Line::Unreadable),

@@ -1,0 +1,54 @@
+-- What is promised of texts and lines.
+use Rattle.std.specs.Prelude.{◌≡◌, ℕ, ◌-◌, ◌^◌, ◌<◌, List, ◌∷◌, ◌++◌, length, slice_index}
+use Rattle.std.specs.List.{All, join_with_byte}
+use Rattle.table.specs.declared.piece.Weights.{Weights}
+use Rattle.texts.specs.Forms.{HasForm}
+use Rattle.texts.specs.Lines.{Saying, enters, finds, meaning_of, names, says, unreadable, wants_key}
+use Rattle.texts.specs.Parts.{parts, without_return}
+use Rattle.texts.specs.Written.{saying_text}
+use Rattle.texts.specs.declared.line.Entry.TheVariants.{Letter, Pair}
+
+-- a text in which the mark does not stand
+abbrev pub IsWithout : (mark : ℕ) → List ℕ → Type 0
+IsWithout m t = (k : ℕ) → k < length t → slice_index t k ≡ m → ⊥
+
+-- a text has a part, if an empty one; its parts hold no mark; and joined, with the mark between each and the next, they are the text
+abbrev pub PartsJoin : Type 0
+PartsJoin = (m : ℕ) (t : List ℕ) → (0 < length (parts m t)) × All (IsWithout m) (parts m t) × (join_with_byte m (parts m t) ≡ t)
+
+-- a line says just what it has the form of
+abbrev pub JustItsForm : Type 0
+JustItsForm = (s : Saying) (l : List ℕ) → (meaning_of l ≡ says s → HasForm s l) × (HasForm s l → meaning_of l ≡ says s)
+
+-- a line that is not empty can't be read exactly if it has no form
+abbrev pub NoOther : Type 0
+NoOther = (l : List ℕ) → (meaning_of l ≡ unreadable → (0 < length l) × ((s : Saying) → HasForm s l → ⊥)) × ((0 < length l) × ((s : Saying) → HasForm s l → ⊥) → meaning_of l ≡ unreadable)
+
+-- weights of 16 bits
+abbrev pub AreShort : Weights → Type 0
+AreShort w = (w.primary < 2 ^ 16) × (w.secondary < 2 ^ 16) × (w.tertiary < 2 ^ 16)
+
+-- a text that can stand in a line: no line feed is in it, and no carriage return at its end
+abbrev pub IsInLine : List ℕ → Type 0
+IsInLine n = IsWithout 10 n × (slice_index n (length n - 1) ≡ 13 → ⊥)
+
+-- a command that can stand in a line
+abbrev pub MayStand : Saying → Type 0
+MayStand (enters (Letter a w)) = (a < 256) × AreShort w
+MayStand (enters (Pair p)) = (p.first < 2 ^ 16) × (p.second < 2 ^ 16) × AreShort p.weights
+MayStand (finds n) = IsInLine n
+MayStand (wants_key n) = IsInLine n
+MayStand (names n) = IsInLine n
+
+-- a command that is written as a line of a text is one line of it, and is read again as what it was
+abbrev pub ReadsBack : Type 0
+ReadsBack =
+    (s : Saying) → MayStand s → (others : List ℕ) →
+    (parts 10 (saying_text s ++ 10 ∷ others) ≡ saying_text s ∷ parts 10 others) × (meaning_of (without_return (saying_text s)) ≡ says s)
+
+-- all of these
+pub record TextLaws : Type 0 where
+  pub parts_join : PartsJoin
+  pub just_its_form : JustItsForm
+  pub no_other : NoOther
+  pub reads_back : ReadsBack
