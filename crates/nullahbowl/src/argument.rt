@@ -1,7 +1,5 @@
 // What an argument is, and how answers are given.
-ghost use Rattle.std.specs.Prelude.{◌≡◌, ◌<◌, ◌^◌};
-ghost use Rattle.std.specs.Option.{SomeIff};
-ghost use Rattle.std.specs.Str.Parse.{IsNumeral, digits_value};
+ghost use Rattle.std.specs.Prelude.{◌≡◌};
 ghost use Rattle.nullahbowl.specs.Arguments.{argument_of};
 
 #[derive(Clone, Copy, PartialEq, Eq, Debug)]
@@ -30,20 +28,6 @@ pub struct Options {
     pub table: bool,
     // How far reading has come is said.
     pub progress: bool,
-}
-
-// How many at most, in decimal digits; nothing where it is no number, or more than a `usize` holds.
-pub fn limit_of(word: &str) -> Option<usize>
-    ensures { SomeIff result (IsNumeral 10 word.now × (digits_value 10 word.now < 2 ^ 64)) (digits_value 10 word.now) }
-{
-    if !word
-        .as_bytes()
-        .iter()
-        .all(|byte| char::from(*byte).is_digit(10))
-    {
-        return None;
-    }
-    usize::from_str_radix(word, 10).ok()
 }
 
 impl Argument {

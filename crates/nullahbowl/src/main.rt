@@ -11,14 +11,14 @@ mod writing;
 
 use answer::{Answer, TakeError};
 use anyhow::anyhow;
-use argument::{Argument, Options, limit_of};
+use argument::{Argument, Options};
 use order::keeps_order;
 use session::Session;
 use std::io::{BufWriter, Read, Write};
 use std::process::ExitCode;
 use std::{env, fs, io};
 use table::{Table, Weights};
-use texts::{Entry, Fault, Numbers, Parts, Told};
+use texts::{Entry, Fault, Numbers, Parts, Told, whole_number};
 use writing::write_found;
 
 const VERSION: &str = "nullahbowl 0.1.0\n";
@@ -144,7 +144,7 @@ fn read_arguments(rt: &HostRuntime, words: Vec<String>) -> anyhow::Result<(Optio
             Argument::Table => options.table = true,
             Argument::Progress => options.progress = true,
             Argument::First => {
-                options.first = words.next().and_then(|word| limit_of(word.as_str()));
+                options.first = words.next().and_then(|word| whole_number(word.as_bytes()));
                 if options.first.is_none() {
                     return Err(anyhow!(
                         "--first wants a number of at most 18446744073709551615 behind it, in digits"

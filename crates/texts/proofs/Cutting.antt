@@ -2,17 +2,18 @@
 use Rattle.std.proofs.Common.{◌≡◌, ℕ, suc, ◌+◌, ◌<◌, ◌≤◌, ◌⊎◌, inl, inr, Bool, true, false, cond, eqb, List, [], ◌∷◌, ◌++◌, length, get_or, take, drop, Some, None, refl, ap, ◌∙◌, arith, sym}
 use Rattle.std.proofs.lemmas.Bool.{eq-eqb, ne_eqb, cases_eq}
 use Rattle.std.proofs.lemmas.List.{drop_more, get_or-take, length-take, take-append-drop}
-use Rattle.texts.specs.Parts.{behind, front, led, parts, parts_left}
+use Rattle.std.specs.List.{onto_first}
+use Rattle.texts.specs.Parts.{behind, front, parts, parts_left}
 
 module _ (m : ℕ) where
   -- the first part is up to the first mark, and the others are those of what stands behind it
   pub parts_first : (xs : List ℕ) → parts m xs ≡ front m xs ∷ parts_left m (behind m xs)
-  unfolding parts front behind
+  unfolding front behind
   parts_first [] = refl
   parts_first (x ∷ xs) = go (eqb x m) (parts_first xs)
     where
       go : (b : Bool) → parts m xs ≡ front m xs ∷ parts_left m (behind m xs) →
-          cond b ([] ∷ parts m xs) (led x (parts m xs)) ≡ cond b [] (x ∷ front m xs) ∷ parts_left m (cond b (Some xs) (behind m xs))
+          cond b ([] ∷ parts m xs) (onto_first x (parts m xs)) ≡ cond b [] (x ∷ front m xs) ∷ parts_left m (cond b (Some xs) (behind m xs))
       go true e = refl
       go false e = rw e refl
 
@@ -78,18 +79,17 @@ module _ (m : ℕ) where
       go (inr n) (inr h) = inr (x ∷ h.0, h.1, (n, h.2), ap (λ l. x ∷ l) h.3)
 
 -- a text has a part, if an empty one, and at most one more than bytes
-length_led : (x : ℕ) (ws : List (List ℕ)) → 0 < length ws → length (led x ws) ≡ length ws
-length_led x [] l = absurd (omega arith)
-length_led x (w ∷ ws) l = refl
+length_onto_first : (x : ℕ) (ws : List (List ℕ)) → 0 < length ws → length (onto_first x ws) ≡ length ws
+length_onto_first x [] l = absurd (omega arith)
+length_onto_first x (w ∷ ws) l = refl
 
 pub parts_some : (m : ℕ) (xs : List ℕ) → 0 < length (parts m xs)
 parts_some m xs = rw (parts_first m xs) (omega arith)
 
 pub parts_most : (m : ℕ) (xs : List ℕ) → length (parts m xs) ≤ length xs + 1
-unfolding parts
 parts_most m [] = omega arith
 parts_most m (x ∷ xs) = go (eqb x m) (parts_some m xs) (parts_most m xs)
   where
-    go : (b : Bool) → 0 < length (parts m xs) → length (parts m xs) ≤ length xs + 1 → length (cond b ([] ∷ parts m xs) (led x (parts m xs))) ≤ suc (length xs) + 1
+    go : (b : Bool) → 0 < length (parts m xs) → length (parts m xs) ≤ length xs + 1 → length (cond b ([] ∷ parts m xs) (onto_first x (parts m xs))) ≤ suc (length xs) + 1
     go true l h = omega arith
-    go false l h = let e = length_led x (parts m xs) l in omega arith
+    go false l h = let e = length_onto_first x (parts m xs) l in omega arith

@@ -1,15 +1,10 @@
 -- A text in parts: a mark stands between each and the next.
+use Rattle.std.specs.List.{slice_split}
 use Rattle.std.specs.Prelude.{ℕ, ◌-◌, cond, List, [], ◌∷◌, length, take, Some, None, Option, ◌==◌, slice_index}
 
--- a byte in front of the first part
-abbrev pub led : ℕ → List (List ℕ) → List (List ℕ)
-led x [] = (x ∷ []) ∷ []
-led x (w ∷ ws) = (x ∷ w) ∷ ws
-
--- a text with n marks has n + 1 parts, some of which may be empty
-unfoldable pub parts : (mark : ℕ) → List ℕ → List (List ℕ)
-parts m [] = [] ∷ []
-parts m (x ∷ xs) = cond (x == m) ([] ∷ parts m xs) (led x (parts m xs))
+-- the library's `split` at a byte: a text with n marks has n + 1 parts, some of which may be empty
+abbrev pub parts : (mark : ℕ) → List ℕ → List (List ℕ)
+parts m = slice_split (λ x. x == m)
 
 -- the parts of what is left of a text, where something is
 abbrev pub parts_left : (mark : ℕ) → Option (List ℕ) → List (List ℕ)

@@ -18,5 +18,6 @@ mod written;
 pub use fault::Fault;
 pub use laws::text_laws;
 pub use line::{Command, Entry, Line};
+pub use numeral::whole_number;
 pub use part::{Parts, without_return};
 pub use written::{Numbers, Told};

@@ -1,7 +1,7 @@
 // What lines say.
 use std::process::Abort;
 use table::{Pair, Weights};
-use texts::{Command, Entry, Line, Parts, without_return};
+use texts::{Command, Entry, Line, Parts, whole_number, without_return};
 
 const ONE: Weights = Weights {
     primary: 1,
@@ -179,6 +179,20 @@ fn bad_numbers(rt: HostRuntime) {
             Case(b"letter U+00G1 1 2 3", Line::Unreadable),
         ],
     );
+}
+
+// Digits alone, as many as a `usize` holds.
+#[test]
+fn whole_numbers(rt: HostRuntime) {
+    assert_eq!(rt; whole_number(b"0"), Some(0));
+    assert_eq!(rt; whole_number(b"0070"), Some(70));
+    assert_eq!(rt; whole_number(b"18446744073709551615"), Some(usize::MAX));
+    assert_eq!(rt; whole_number(b"18446744073709551616"), None);
+    assert_eq!(rt; whole_number(b""), None);
+    assert_eq!(rt; whole_number(b"+1"), None);
+    assert_eq!(rt; whole_number(b"-1"), None);
+    assert_eq!(rt; whole_number(b"1a"), None);
+    assert_eq!(rt; whole_number(b" 1"), None);
 }
 
 // One carriage return at the end is no part of the line.
