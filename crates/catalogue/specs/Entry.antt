@@ -22,7 +22,11 @@ FindsIn right l ask part = Found right l ask part × (part ≡ looked_through ri
 abbrev pub FindsUnder : Lists → (ask part : List ℕ) → Type 0
 FindsUnder l ask part = FindsIn (are_listed l && may_ask ask) l ask part
 
+-- all is as it should be: the table, the lists, and what is asked
+abbrev pub all_right : (letters joins : List ℕ) → (how_many : ℕ) → (text starts places ask : List ℕ) → Bool
+all_right ls js n text starts places ask = is_table ls js n && (are_listed (lists (rules_in ls js n) text starts places) && may_ask ask)
+
 -- under numbers, where they are a table too
 abbrev pub FindSays : (letters joins : List ℕ) → (how_many : ℕ) → (text starts places ask part : List ℕ) → Type 0
 FindSays ls js n text starts places ask part =
-    FindsIn (is_table ls js n && (are_listed (lists (rules_in ls js n) text starts places) && may_ask ask)) (lists (rules_in ls js n) text starts places) ask part
+    FindsIn (all_right ls js n text starts places ask) (lists (rules_in ls js n) text starts places) ask part

@@ -1,0 +1,55 @@
+-- Answers as numbers.
+use Rattle.std.specs.Prelude.{◌≡◌, ℕ, List, length, Some, None, Option}
+use Rattle.std.specs.Option.{option_or}
+use Rattle.capi.specs.declared.answer.KeyAnswer.{KeyAnswer}
+use Rattle.capi.specs.declared.answer.Verdict.{Verdict}
+use Rattle.catalogue.specs.Lists.{Lists, fault_place, names_fault, places_fault}
+use Rattle.catalogue.specs.declared.fault.ListFault.{ListFault}
+use Rattle.catalogue.specs.declared.fault.ListFault.TheVariants.{NoStart, StartFalls, NameTooLong, EndsElsewhere, NoSuchName, OutOfOrder}
+use Rattle.keys.specs.Entry.{KeySays, done_of}
+use Rattle.keys.specs.declared.entry.Done.{Done}
+use Rattle.keys.specs.declared.entry.Done.TheVariants.{Keyed, Short, Refused}
+use Rattle.table.specs.Refusals.{refusal_place}
+use Rattle.table.specs.declared.fault.Refusal.{Refusal}
+
+-- a key that is made is 0 and how many numbers it has, one that doesn't fit 1 and how many it needs, one that is refused 2 and
+-- the number of the refusal
+abbrev pub key_answer : Done → KeyAnswer
+key_answer (Keyed n) = record { what = 0; number = n }
+key_answer (Short n) = record { what = 1; number = n }
+key_answer (Refused n) = record { what = 2; number = n }
+
+-- the answer is what is to be said for these numbers, and the room holds what it should then
+abbrev pub ExactlyKeyed : (letters pairs : List ℕ) → (how_many : ℕ) → (name room : List ℕ) → KeyAnswer → (after : List ℕ) → Type 0
+ExactlyKeyed ls ps n x room r after =
+    (r ≡ key_answer (done_of ls ps n x (length room))) × KeySays ls ps n x room (done_of ls ps n x (length room)) after
+
+-- nothing is wrong
+abbrev pub right : Verdict
+right = record { what = 0; place = 0 }
+
+-- a table's fault is 1, and the pair at fault, or 0
+abbrev pub table_verdict : Refusal → Verdict
+table_verdict why = record { what = 1; place = refusal_place why }
+
+-- the faults of lists are 2 to 7, in the order in which they are looked for
+abbrev pub fault_number : ListFault → ℕ
+fault_number NoStart = 2
+fault_number (StartFalls k) = 3
+fault_number (NameTooLong i n) = 4
+fault_number (EndsElsewhere k) = 5
+fault_number (NoSuchName k) = 6
+fault_number (OutOfOrder k) = 7
+
+abbrev pub list_verdict : ListFault → Verdict
+list_verdict why = record { what = fault_number why; place = fault_place why }
+
+-- the first fault of lists; None where they are a catalogue
+abbrev pub fault_in : Lists → Option ListFault
+fault_in l = option_or (names_fault l.text l.starts) (places_fault l)
+
+-- the table is looked at first, then the lists
+abbrev pub verdict_of : Option Refusal → Option ListFault → Verdict
+verdict_of (Some why) f = table_verdict why
+verdict_of None (Some why) = list_verdict why
+verdict_of None None = right

@@ -1,0 +1,95 @@
+// Keys and finding for C and Rust, on numbers and slices.
+//
+// A static library: each function here is one that C calls, and include/nullahbowl.h says the same to C. A slice crosses as a
+// pointer and a length; lengths are tested inside, and nothing is asked of the caller but memory that is there. Answers are
+// plain numbers (answer).
+#![tactic(auto)]
+
+ghost use Rattle.std.specs.Prelude.{◌≡◌, ◌+◌, ◌≤◌, length, slice_range};
+ghost use Rattle.capi.specs.Answers.{ExactlyKeyed, fault_in, verdict_of};
+ghost use Rattle.catalogue.specs.Entry.{FindSays, all_right};
+ghost use Rattle.catalogue.specs.Finding.{FoundAt};
+ghost use Rattle.catalogue.specs.Lists.{lists};
+ghost use Rattle.table.specs.Refusals.{refusal_of};
+ghost use Rattle.table.specs.Rules.{rules_in};
+
+mod answer;
+
+pub use answer::{KeyAnswer, Part, Verdict};
+use catalogue::Catalogue;
+use std::ops::Range;
+use table::Table;
+
+// The key of a name, written into the front of `room`; nothing else is written.
+#[unsafe(no_mangle)]
+pub extern "C" fn nullahbowl_key(
+    letters: &[u16],
+    pairs: &[u16],
+    how_many: u64,
+    name: &[u8],
+    room: &mut [u16],
+) -> KeyAnswer
+    ensures { ExactlyKeyed letters.now pairs.now how_many name.now room.old result room.new }
+{
+    KeyAnswer::from(keys::make_key(letters, pairs, how_many, name, room))
+}
+
+// Where the part of a list is whose names begin as asked, all being checked each time.
+#[unsafe(no_mangle)]
+pub extern "C" fn nullahbowl_find(
+    letters: &[u16],
+    pairs: &[u16],
+    how_many: u64,
+    text: &[u8],
+    starts: &[u32],
+    places: &[u32],
+    ask: &[u8],
+) -> Part
+    ensures stands { FoundAt (all_right letters.now pairs.now how_many text.now starts.now places.now ask.now) (lists (rules_in letters.now pairs.now how_many) text.now starts.now places.now) ask.now result.place (result.place + result.length) }
+    ensures part { FindSays letters.now pairs.now how_many text.now starts.now places.now ask.now (slice_range places.now result.place (result.place + result.length)) }
+{
+    Part::from(range_in(letters, pairs, how_many, text, starts, places, ask))
+}
+
+// Where it is; from 0 up to 0 where not all is as it should be.
+fn range_in(
+    letters: &[u16],
+    pairs: &[u16],
+    how_many: u64,
+    text: &[u8],
+    starts: &[u32],
+    places: &[u32],
+    ask: &[u8],
+) -> Range<usize>
+    ensures { FoundAt (all_right letters.now pairs.now how_many text.now starts.now places.now ask.now) (lists (rules_in letters.now pairs.now how_many) text.now starts.now places.now) ask.now result.start result.end }
+{
+    let Ok(table) = Table::check(letters, pairs, how_many) else {
+        return 0..0;
+    };
+    let Ok(catalogue) = Catalogue::check(&table, text, starts, places) else {
+        return 0..0;
+    };
+    catalogue.range(ask)
+}
+
+// What is wrong with a table and lists.
+#[unsafe(no_mangle)]
+pub extern "C" fn nullahbowl_check(
+    letters: &[u16],
+    pairs: &[u16],
+    how_many: u64,
+    text: &[u8],
+    starts: &[u32],
+    places: &[u32],
+) -> Verdict
+    ensures { result ≡ verdict_of (refusal_of letters.now pairs.now how_many) (fault_in (lists (rules_in letters.now pairs.now how_many) text.now starts.now places.now)) }
+{
+    let table = match Table::check(letters, pairs, how_many) {
+        Ok(table) => table,
+        Err(why) => return Verdict::from(why),
+    };
+    match Catalogue::check(&table, text, starts, places) {
+        Ok(_) => Verdict::right(),
+        Err(why) => Verdict::from(why),
+    }
+}

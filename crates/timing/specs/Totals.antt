@@ -1,0 +1,54 @@
+-- What many jobs of one kind come to.
+use Rattle.std.specs.Prelude.{◌≡◌, ℕ, zero, suc, ◌+◌, ◌-◌, ◌%◌, ◌^◌, Bool, cond, List, ◌++◌, drop, length, min, is_none, slice_index_or, ◌&&◌, nat_lt, true, false}
+use Rattle.catalogue.specs.Arranging.{Arranged}
+use Rattle.catalogue.specs.Entry.{is_table}
+use Rattle.catalogue.specs.Finding.{looked_through, may_ask}
+use Rattle.catalogue.specs.Lists.{Lists, lists, name_at, name_of, names_fault}
+use Rattle.keys.specs.Rows.{key}
+use Rattle.order.specs.Names.{name_before}
+use Rattle.table.specs.Rules.{Rules, rules_in}
+
+-- the numbers of the first n, added up as far as 64 bits go
+unfoldable pub total : (ℕ → ℕ) → (n : ℕ) → ℕ
+total f zero = 0
+total f (suc n) = (total f n + f n) % 2 ^ 64
+
+-- as many names as 32 bits number
+abbrev pub numbered : (starts : List ℕ) → ℕ
+numbered starts = min (length starts - 1) (2 ^ 32 - 1)
+
+-- the first numbers of the room are the key, where it fits
+abbrev pub over : (key room : List ℕ) → List ℕ
+over k room = cond (nat_lt (length room) (length k)) room (k ++ drop (length k) room)
+
+-- the room when the keys of the first n names have been written, each over the one before
+unfoldable pub room_after : (key_of : ℕ → List ℕ) → (room : List ℕ) → (n : ℕ) → List ℕ
+room_after k room zero = room
+room_after k room (suc n) = over (k n) (room_after k room n)
+
+-- how many numbers of the next key are written: all, where it fits
+abbrev pub written : (key_of : ℕ → List ℕ) → (room : List ℕ) → ℕ → ℕ
+written k room i = cond (nat_lt (length (room_after k room i)) (length (k i))) 0 (length (k i))
+
+-- the key of the name of a number
+abbrev pub key_at : Rules → (text starts : List ℕ) → ℕ → List ℕ
+key_at t text starts i = key t (name_of text starts i)
+
+-- the numbers are a table, and text and starts hold names
+abbrev pub are_names : (letters pairs : List ℕ) → (how_many : ℕ) → (text starts : List ℕ) → Bool
+are_names ls ps n text starts = is_table ls ps n && is_none (names_fault text starts)
+
+-- 1 where the name behind a place of the list is after the one at it, else 0; numbers that are no name's count 0
+abbrev pub in_order_at : Lists → ℕ → ℕ
+in_order_at l k =
+    cond (nat_lt (slice_index_or l.places k 0 + 1) (length l.starts) && (nat_lt (slice_index_or l.places (k + 1) 0 + 1) (length l.starts)
+    && name_before l.rules (name_at l k) (name_at l (k + 1)))) 1 0
+
+-- how many names are found for the question of a number
+abbrev pub found_at : Lists → (asks ask_starts : List ℕ) → ℕ → ℕ
+found_at l asks ask_starts i = length (looked_through (may_ask (name_of asks ask_starts i)) l (name_of asks ask_starts i))
+
+-- a list of all names is made, and stands in the room, which has as many places; else the room is as it was
+abbrev pub Listed : (right : Bool) → Lists → (after : List ℕ) → (made : Bool) → Type 0
+Listed right l after true = (right ≡ true) × Arranged (lists l.rules l.text l.starts after)
+Listed right l after false = after ≡ l.places
