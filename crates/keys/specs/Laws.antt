@@ -37,12 +37,20 @@ RowsZeroFree = (l : Level) (t : Rules) (n : List ℕ) → ZeroFree (row l t n)
 abbrev pub KeysShort : Type 0
 KeysShort = (t : Rules) (n : List ℕ) → length (key t n) ≤ 3 * length n + 2
 
--- two keys under the valley's table
+-- four keys under the valley's table
 abbrev pub KeyOfCab : Type 0
 KeyOfCab = key valley (codes "cab") ≡ 30 ∷ (10 ∷ (20 ∷ (0 ∷ (1 ∷ (1 ∷ (1 ∷ (0 ∷ (1 ∷ (1 ∷ (1 ∷ []))))))))))
 
 abbrev pub KeyOfChad : Type 0
 KeyOfChad = key valley (codes "chad") ≡ 35 ∷ (10 ∷ (40 ∷ (0 ∷ (1 ∷ (1 ∷ (1 ∷ (0 ∷ (1 ∷ (1 ∷ (1 ∷ []))))))))))
+
+-- a large letter differs on the third level alone
+abbrev pub KeyOfLarge : Type 0
+KeyOfLarge = key valley (codes "Cab") ≡ 30 ∷ (10 ∷ (20 ∷ (0 ∷ (1 ∷ (1 ∷ (1 ∷ (0 ∷ (2 ∷ (1 ∷ (1 ∷ []))))))))))
+
+-- a mark does not count on the first level, and what is behind it does
+abbrev pub KeyOfMarked : Type 0
+KeyOfMarked = key valley (codes "c'ab") ≡ 30 ∷ (10 ∷ (20 ∷ (0 ∷ (1 ∷ (2 ∷ (1 ∷ (1 ∷ (0 ∷ (1 ∷ (1 ∷ (1 ∷ (1 ∷ []))))))))))))
 
 -- all of these
 pub record Laws : Type 0 where
@@ -51,3 +59,5 @@ pub record Laws : Type 0 where
   pub keys_short : KeysShort
   pub key_of_cab : KeyOfCab
   pub key_of_chad : KeyOfChad
+  pub key_of_large : KeyOfLarge
+  pub key_of_marked : KeyOfMarked

@@ -17,7 +17,7 @@ mod sort_key;
 
 pub use entry::{Done, make_key};
 pub use fault::{KeyError, NameRefusal};
-pub use laws::{key_laws, refusals_equal};
+pub use laws::key_laws;
 pub use level::Level;
 pub use numbers::KeyNumbers;
 pub use row::Row;

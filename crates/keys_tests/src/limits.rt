@@ -1,5 +1,5 @@
 // Names at the limit and past it, and what is turned away.
-use keys::{Done, KeyError, NameRefusal, Short, SortKeys, make_key, refusals_equal};
+use keys::{Done, KeyError, NameRefusal, Short, SortKeys, make_key};
 use std::test::Fail;
 use table::{Pair, Table, TableBuf, Weights, valley_letters, valley_pairs};
 
@@ -40,8 +40,8 @@ fn longest_name(rt: HostRuntime) {
     assert_eq!(rt; NameRefusal::of(&name[0..1000]), None);
     assert_eq!(rt; NameRefusal::TooLong(1001).number(), 2);
     assert_eq!(rt; NameRefusal::TooLong(1001).place(), 1001);
-    assert!(rt; refusals_equal(NameRefusal::TooLong(1001), NameRefusal::TooLong(1001)));
-    assert!(rt; !refusals_equal(NameRefusal::TooLong(1001), NameRefusal::TooLong(1002)));
+    assert!(rt; NameRefusal::TooLong(1001) == NameRefusal::TooLong(1001));
+    assert!(rt; NameRefusal::TooLong(1001) != NameRefusal::TooLong(1002));
 }
 
 #[test]

@@ -6,13 +6,14 @@ use Rattle.std.specs.Ordering.{is_lt, ordering_reverse}
 use Rattle.std.proofs.lemmas.Bool.{eqb-true, eqb-false}
 use Rattle.std.proofs.lemmas.Cmp.{nat_list_cmp_total, tied_itself}
 use Rattle.keys.specs.declared.level.Level.TheVariants.{Primary, Secondary}
-use Rattle.keys.specs.Rows.{key, row, rows}
+use Rattle.keys.specs.Pieces.{pieces}
+use Rattle.keys.specs.Rows.{key, row, rows, without_zeros}
 use Rattle.keys.proofs.Bounding.{row_free}
 use Rattle.table.specs.Rules.{Rules}
 use Rattle.order.specs.Rows.{FreeButLast, before, row_order}
 use Rattle.order.specs.Names.{name_before}
-use Rattle.order.specs.Laws.{AnOrder, InOrder, Levels, ReadBack, Together}
-use Rattle.order.proofs.Rows.{alike_are_same, between, joined_by_levels, joined_reads_back}
+use Rattle.order.specs.Laws.{AnOrder, InOrder, Levels, ReadBack, StandingsAgree, Together, ValleyOrder}
+use Rattle.order.proofs.Rows.{after_says, alike_are_same, between, joined_by_levels, joined_reads_back}
 
 free : (t : Rules) (n : List ℕ) → FreeButLast (rows t n)
 free t n = (row_free Primary t n, (row_free Secondary t n, tt))
@@ -45,6 +46,16 @@ an_order = record {
 -- of names in order the first rows are
 pub first_rows : (t : Rules) (a b : List ℕ) → name_before t a b ≡ false → before (row Primary t a) (row Primary t b) ≡ false
 first_rows t a b h = let e = levels t a b in grind arith
+
+pub standings_agree : StandingsAgree
+standings_agree t a asked = (
+  λ h. let e = levels t a asked in grind arith,
+  λ h. let e = levels t asked a in let f = after_says (row Primary t a) (row Primary t asked) h in grind arith,
+)
+
+pub valley_order : ValleyOrder
+unfolding pieces without_zeros row key
+valley_order = (refl, refl, refl, refl, refl, refl)
 
 apart : (t : Rules) (ns : List (List ℕ)) → InOrder t ns → (i j : ℕ) → i ≤ j → j < length ns
     → before (row Primary t (slice_index_or ns j [])) (row Primary t (slice_index_or ns i [])) ≡ false

@@ -1,14 +1,16 @@
 -- What is promised of the order, of every table.
-use Rattle.std.specs.Prelude.{Bool, List, [], length, slice_index_or, true, false, ℕ, ◌<◌, ◌≡◌, ◌≤◌, ◌⊎◌}
+use Rattle.std.specs.Prelude.{Bool, List, [], ◌∷◌, ◌++◌, codes, length, slice_index_or, true, false, ℕ, ◌<◌, ◌≡◌, ◌≤◌, ◌⊎◌}
 use Rattle.std.specs.Cmp.{IsTotalOrder}
 use Rattle.std.specs.declared.cmp.Ordering.TheVariants.{Equal}
 use Rattle.keys.specs.Rows.{joined, key, row, rows}
 use Rattle.keys.specs.declared.level.Level.{Level}
 use Rattle.keys.specs.declared.level.Level.TheVariants.{Primary}
+use Rattle.order.specs.declared.collate.Standing.TheVariants.{Before, After}
 use Rattle.order.specs.Names.{along, name_before, name_order, standing}
 use Rattle.order.specs.Newer.{Keeps, KeepsNames, SameRuns, Scaled}
 use Rattle.order.specs.Rows.{FreeButLast, before, begins, by_levels, row_order}
 use Rattle.table.specs.Rules.{Rules}
+use Rattle.table.specs.Valley.{valley}
 
 -- ---- rows
 
@@ -24,6 +26,21 @@ JoinedReadsBack = (rs ss : List (List ℕ)) → length rs ≡ length ss → Free
 -- rows of which neither is before the other are the same
 abbrev pub AlikeAreSame : Type 0
 AlikeAreSame = (xs ys : List ℕ) → row_order xs ys ≡ Equal → xs ≡ ys
+
+-- Before, in plain words: behind a front that both rows share the one has ended and the other hasn't, or it has the smaller number.
+abbrev pub IsBefore : List ℕ → List ℕ → Type 0
+IsBefore xs ys =
+    (front : List ℕ) × (y : ℕ) × (s : List ℕ) × (ys ≡ front ++ y ∷ s)
+    × ((xs ≡ front) ⊎ ((x : ℕ) × (r : List ℕ) × (xs ≡ front ++ x ∷ r) × (x < y)))
+
+abbrev pub BeforeSays : Type 0
+BeforeSays = (xs ys : List ℕ) → (before xs ys ≡ true → IsBefore xs ys) × (IsBefore xs ys → before xs ys ≡ true)
+
+-- a row begins with another exactly if it is that one with something behind, or with nothing
+abbrev pub BeginsSays : Type 0
+BeginsSays =
+    (row asked : List ℕ) →
+    (begins row asked ≡ true → (rest : List ℕ) × (row ≡ asked ++ rest)) × ((rest : List ℕ) → row ≡ asked ++ rest → begins row asked ≡ true)
 
 -- a row between two that begin with the one asked for begins with it too
 abbrev pub Between : Type 0
@@ -41,6 +58,8 @@ pub record RowLaws : Type 0 where
   pub joined_reads_back : JoinedReadsBack
   pub total : IsTotalOrder row_order
   pub alike_are_same : AlikeAreSame
+  pub before_says : BeforeSays
+  pub begins_says : BeginsSays
   pub between : Between
   pub standings_rise : StandingsRise
 
@@ -55,6 +74,20 @@ pub record AnOrder : Type 0 where
   pub one_of_three : (t : Rules) (a b : List ℕ) → (name_before t a b ≡ true) ⊎ ((name_before t b a ≡ true) ⊎ (key t a ≡ key t b))
   pub through : (t : Rules) (a b c : List ℕ) → name_before t a b ≡ true → name_before t b c ≡ true → name_before t a c ≡ true
   pub not_back : (t : Rules) (a b : List ℕ) → name_before t a b ≡ true → name_before t b a ≡ false
+
+-- a name that stands before what is asked is before it, and one that stands after it is after it
+abbrev pub StandingsAgree : Type 0
+StandingsAgree =
+    (t : Rules) (a asked : List ℕ) →
+    (standing (row Primary t a) (row Primary t asked) ≡ Before → name_before t a asked ≡ true)
+    × (standing (row Primary t a) (row Primary t asked) ≡ After → name_before t asked a ≡ true)
+
+-- under the valley's table cab, Cab, cab', cad, cz, chad and da stand in this order
+abbrev pub ValleyOrder : Type 0
+ValleyOrder =
+    (name_before valley (codes "cab") (codes "Cab") ≡ true) × (name_before valley (codes "Cab") (codes "cab'") ≡ true)
+    × (name_before valley (codes "cab'") (codes "cad") ≡ true) × (name_before valley (codes "cad") (codes "cz") ≡ true)
+    × (name_before valley (codes "cz") (codes "chad") ≡ true) × (name_before valley (codes "chad") (codes "da") ≡ true)
 
 -- a list in order: of any two names the later is not before the earlier
 abbrev pub InOrder : Rules → List (List ℕ) → Type 0
@@ -83,6 +116,8 @@ NewerByScales = (old : ℕ → Bool) (t u : Rules) → SameRuns old t u → ((l 
 pub record OrderLaws : Type 0 where
   pub levels : Levels
   pub order : AnOrder
+  pub standings_agree : StandingsAgree
+  pub valley_order : ValleyOrder
   pub together : Together
   pub read_back : ReadBack
   pub newer_tables : NewerTables

@@ -1,6 +1,6 @@
 -- The laws of tables.
 use Rattle.std.proofs.Common.{◌≡◌, ℕ, zero, suc, ◌<◌, Bool, true, false, List, [], ◌∷◌, length, is_some, Some, None, sym, refl, ap, ◌∙◌, ap₂, ⊎_elim, arith}
-use Rattle.std.proofs.lemmas.Bool.{or_from, le-ltb, cases_Bool, cases_lt, cases_order, true≢false}
+use Rattle.std.proofs.lemmas.Bool.{or_from, le-ltb, cases_Bool, cases_lt, cases_order, cond-true, true≢false}
 use Rattle.std.proofs.lemmas.Option.{none-some, same_Some}
 use Rattle.std.proofs.lemmas.Bool.Decides.{nat_tests}
 use Rattle.std.proofs.lemmas.List.FromFn.{length-map-range_with_len}
@@ -8,14 +8,15 @@ use Rattle.std.specs.List.{slice_get}
 use Rattle.table.specs.declared.fault.Refusal.TheVariants.{Foreign, Twice}
 use Rattle.table.specs.declared.piece.Pair.{Pair}
 use Rattle.table.specs.declared.view.Table.{Table}
-use Rattle.table.specs.Laws.{SamePair, KnownPair, IsTable, ExactlyTables, FirstForeign, FirstTwice, JustPairs, SameRefusal}
+use Rattle.table.specs.Laws.{SamePair, KnownPair, IsTable, ExactlyTables, FirstForeign, FirstTwice, HeldAreTables, JustPairs, LettersWeigh, PairsListed, SameRefusal, ValleySays}
 use Rattle.table.specs.Meaning.{pairs_of, rules_of}
 use Rattle.table.specs.Numbers.{first_at, second_at, pair_at, place_in}
 use Rattle.table.specs.Refusals.{first_place, foreign, repeated, refusal_of}
-use Rattle.table.specs.Rules.{joins_in, weighs_in, weights_of}
+use Rattle.table.specs.Rules.{contraction, joins_in, weighs_in, weights_of}
 use Rattle.table.proofs.Firsts.{first_below, first_least, first_passes, none_at, none_below}
 use Rattle.table.proofs.Growing.{refusal_more}
 use Rattle.table.proofs.Places.{place_below, first_known, nth_none, nth_pair, second_known}
+use Rattle.table.proofs.Valleys.{numbers, valley_kept, valley_rules}
 use Rattle.table.proofs.Refusing.{sound, no_refusal, some_or_none, by_refusal}
 
 -- where a pair is, and where it is not
@@ -123,6 +124,26 @@ just_pairs ls ps n t = (
   one_of_pairs ps n,
 )
 
+pub letters_weigh : LettersWeigh
+unfolding weighs_in
+letters_weigh ls ps n a = refl
+
+pub held_are_tables : HeldAreTables
+held_are_tables t =
+    let ps = t.pairs.numbers.now in
+    let n = t.pairs.count in
+    record {
+      whole = t.whole;
+      fives = t.fives;
+      few = t.pairs.few;
+      known = λ k l. known_from ps k (none_at (foreign ps) n t.pairs.known k l);
+      apart = λ j k l m. once_from ps k (none_at (repeated ps) n t.pairs.apart k m) j l;
+    }
+
+pub valley_says : ValleySays
+unfolding numbers
+valley_says = (valley_kept, valley_rules, refl)
+
 pub same_refusal : SameRefusal
 same_refusal ls ps n p e = let s = sound ls ps n e in refusal_more ps n p s.fives ls s.whole s.known s.apart
 
@@ -148,3 +169,20 @@ listed_joins t k p e =
     ∙ ⊎_elim (λ h. h) (λ h. absurd (place_not ps n (first_at ps k) (second_at ps k) h k l refl refl)) (cases_Bool (is_some (place_in ps n (first_at ps k) (second_at ps k)))))
     (λ l. absurd (none-some p (sym (nth_none ps n k l) ∙ e)))
     (cases_lt k n)
+
+-- with the weights that stand there
+listed_weighs : (t : Table) (k : ℕ) (p : Pair) → slice_get (pairs_of t) k ≡ Some p → contraction (rules_of t) (p.first ∷ (p.second ∷ [])) ≡ Some p.weights
+listed_weighs t k p e =
+    let ps = t.pairs.numbers.now in
+    let n = t.pairs.count in
+    ⊎_elim
+    (λ l.
+    let q = same_Some (pair_at ps k) p (sym (nth_pair ps n k l) ∙ e) in
+    let j = (just_pairs t.letters.now ps n (held_are_tables t)).0 k l in
+    ap (λ x. contraction (rules_of t) (x.first ∷ (x.second ∷ []))) (sym q)
+    ∙ (cond-true _ _ _ j.0 ∙ (ap Some j.1 ∙ ap (λ x. Some x.weights) q)))
+    (λ l. absurd (none-some p (sym (nth_none ps n k l) ∙ e)))
+    (cases_lt k n)
+
+pub pairs_listed : PairsListed
+pairs_listed t = (listed_weighs t, λ run e. let q = listed t run e in (q.0, q.1, q.3, q.4))

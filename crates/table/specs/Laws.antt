@@ -1,12 +1,16 @@
 -- What is promised of tables, in words that do not go by how they are checked. Which of several faults is told is said by
 -- `refusal_of` alone.
 use Rattle.std.specs.Prelude.{◌≡◌, ℕ, ◌+◌, ◌*◌, ◌<◌, ◌≤◌, true, List, [], ◌∷◌, ◌++◌, length, Some, None}
+use Rattle.std.specs.List.{slice_get}
 use Rattle.table.specs.declared.fault.Refusal.TheVariants.{Foreign, Twice}
 use Rattle.table.specs.declared.piece.Pair.{Pair}
+use Rattle.table.specs.declared.view.Table.{Table}
 use Rattle.table.specs.Buffer.{pair_refusal}
-use Rattle.table.specs.Numbers.{first_at, second_at, weights_at, numbers_of}
+use Rattle.table.specs.Meaning.{pairs_of, rules_of}
+use Rattle.table.specs.Numbers.{first_at, second_at, weights_at, numbers_of, pairs_in}
 use Rattle.table.specs.Refusals.{refusal_of}
-use Rattle.table.specs.Rules.{rules_in}
+use Rattle.table.specs.Rules.{contraction, rules_in}
+use Rattle.table.specs.Valley.{valley, valley_list, valley_pair, valley_pairs}
 
 -- the pairs at places j and k are of the same two letters
 abbrev pub SamePair : List ℕ → ℕ → ℕ → Type 0
@@ -49,6 +53,26 @@ JustPairs =
     × ((rules_in ls ps n).weighs (first_at ps k ∷ (second_at ps k ∷ [])) ≡ weights_at ps (5 * k + 2)))
     × ((run : List ℕ) → (rules_in ls ps n).joins run ≡ true → (k : ℕ) × (k < n) × (run ≡ first_at ps k ∷ (second_at ps k ∷ [])))
 
+-- a letter weighs what stands at its place
+abbrev pub LettersWeigh : Type 0
+LettersWeigh = (ls ps : List ℕ) (n a : ℕ) → (rules_in ls ps n).weighs (a ∷ []) ≡ weights_at ls (3 * a)
+
+-- whoever holds a table holds numbers that are one
+abbrev pub HeldAreTables : Type 0
+HeldAreTables = (t : Table) → IsTable t.letters.now t.pairs.numbers.now t.pairs.count
+
+-- the pairs that a table lists are just those that are one together, each with what it weighs
+abbrev pub PairsListed : Type 0
+PairsListed =
+    (t : Table) →
+    ((k : ℕ) (p : Pair) → slice_get (pairs_of t) k ≡ Some p → contraction (rules_of t) (p.first ∷ (p.second ∷ [])) ≡ Some p.weights)
+    × ((run : List ℕ) → (rules_of t).joins run ≡ true → (k : ℕ) × (p : Pair) × (slice_get (pairs_of t) k ≡ Some p) × (run ≡ p.first ∷ (p.second ∷ [])))
+
+-- the valley's numbers are a table that says its rule
+abbrev pub ValleySays : Type 0
+ValleySays =
+    (refusal_of valley_list valley_pair 1 ≡ None) × (rules_in valley_list valley_pair 1 ≡ valley) × (pairs_in valley_pair 1 ≡ valley_pairs)
+
 -- a pair that is added meets the refusal that the numbers with it behind would meet
 abbrev pub SameRefusal : Type 0
 SameRefusal =
@@ -60,4 +84,8 @@ pub record Laws : Type 0 where
   pub first_foreign : FirstForeign
   pub first_twice : FirstTwice
   pub just_pairs : JustPairs
+  pub letters_weigh : LettersWeigh
+  pub held_are_tables : HeldAreTables
+  pub pairs_listed : PairsListed
+  pub valley_says : ValleySays
   pub same_refusal : SameRefusal

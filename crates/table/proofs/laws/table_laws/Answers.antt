@@ -1,11 +1,15 @@
-use Rattle.table.proofs.Lawful.{exactly_tables, first_foreign, first_twice, just_pairs, same_refusal}
+use Rattle.table.proofs.Lawful.{exactly_tables, first_foreign, first_twice, held_are_tables, just_pairs, letters_weigh, pairs_listed, same_refusal, valley_says}
 use Rattle.table.proofs.laws.table_laws.Goals as goal
 
-pub returns : goal.returns
-returns c = record {
+pub returns-clause-laws : goal.returns-clause-laws
+returns-clause-laws c = record {
   exactly_tables = exactly_tables;
   first_foreign = first_foreign;
   first_twice = first_twice;
   just_pairs = just_pairs;
+  letters_weigh = letters_weigh;
+  held_are_tables = held_are_tables;
+  pairs_listed = pairs_listed;
+  valley_says = valley_says;
   same_refusal = same_refusal;
 }
