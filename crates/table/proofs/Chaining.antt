@@ -1,11 +1,11 @@
--- Following the chain of a letter meets the pair that looking at every place would.
-use Rattle.std.proofs.Common.{◌≡◌, ℕ, zero, suc, ◌+◌, ◌<◌, ◌≤◌, cond, eqb, List, length, get_or, set, replicate, Some, None, Option, sym, refl, ap, ◌∙◌, ⊎_elim, add-one, arith, IfSome}
+-- Following the chain of a bucket meets the pair that looking at every place would.
+use Rattle.std.proofs.Common.{◌≡◌, ℕ, zero, suc, ◌+◌, ◌<◌, ◌≤◌, cond, eqb, List, length, get_or, set, replicate, Some, None, Option, sym, refl, ap, ◌∙◌, ⊎_elim, add-one, arith, IfSome, true, false}
 use Rattle.std.proofs.lemmas.List.FromFn.{length-map-range_with_len, get_or-map-range_with_len}
 use Rattle.std.proofs.lemmas.List.{ext_get_or, length-set, get_or-set_same, get_or-set_other}
-use Rattle.std.proofs.lemmas.Bool.{eq-eqb, ne_eqb, cases_eq}
+use Rattle.std.proofs.lemmas.Bool.{cond-false, cond-true, eq-eqb, ne_eqb, cases_eq}
 use Rattle.std.proofs.lemmas.Bool.Decides.{nat_tests}
-use Rattle.table.specs.Numbers.{first_at, second_at, place_in}
-use Rattle.table.specs.Chain.{last_from, heads_of, link_of}
+use Rattle.table.specs.Numbers.{first_at, is_pair, second_at, place_in}
+use Rattle.table.specs.Chain.{bucket, bucket_at, heads_of, last_in, link_of}
 
 -- how many places a chain that begins here may still meet
 pub height : Option ℕ → ℕ
@@ -16,106 +16,114 @@ height (Some k) = suc k
 pub along : List ℕ → Option ℕ → ℕ → ℕ → Option ℕ
 along ps at a b = place_in ps (height at) a b
 
-module _ (ps : List ℕ) (a : ℕ) where
-  pub last_most : (n : ℕ) → height (last_from ps n a) ≤ n
-  unfolding last_from height
+pub bucket_below : (a b : ℕ) → bucket a b < 256
+unfolding bucket
+bucket_below a b = omega arith
+
+module _ (ps : List ℕ) (h : ℕ) where
+  pub last_most : (n : ℕ) → height (last_in ps n h) ≤ n
+  unfolding last_in height
   last_most zero = omega arith
   last_most (suc k) = let ih = last_most k in grind (arith, nat_tests)
 
-  -- a chain meets only pairs that begin with its letter
-  pub last_begins : (n k : ℕ) → last_from ps n a ≡ Some k → first_at ps k ≡ a
-  unfolding last_from
-  last_begins zero k h = grind arith
-  last_begins (suc n) k h = let ih = last_begins n k in grind (arith, nat_tests)
+  -- a chain meets only pairs of its bucket
+  pub last_is : (n k : ℕ) → last_in ps n h ≡ Some k → bucket_at ps k ≡ h
+  unfolding last_in
+  last_is zero k e = grind arith
+  last_is (suc n) k e = let ih = last_is n k in grind (arith, nat_tests)
 
-  pub last_begun : (n : ℕ) → IfSome (last_from ps n a) (λ k. first_at ps k ≡ a)
-  last_begun n = go (last_from ps n a) (last_begins n)
+  pub last_bucket : (n : ℕ) → IfSome (last_in ps n h) (λ k. bucket_at ps k ≡ h)
+  last_bucket n = go (last_in ps n h) (last_is n)
     where
-      go : (at : Option ℕ) → ((k : ℕ) → at ≡ Some k → first_at ps k ≡ a) → IfSome at (λ k. first_at ps k ≡ a)
-      go None h = tt
-      go (Some k) h = h k refl
+      go : (at : Option ℕ) → ((k : ℕ) → at ≡ Some k → bucket_at ps k ≡ h) → IfSome at (λ k. bucket_at ps k ≡ h)
+      go None e = tt
+      go (Some k) e = e k refl
 
-  -- nothing is passed over between a place and the last pair before it that begins with the letter
-  pub skips : (b n : ℕ) → place_in ps n a b ≡ along ps (last_from ps n a) a b
-  unfolding last_from place_in along height
-  skips b zero = refl
-  skips b (suc k) = let ih = skips b k in grind (arith, nat_tests)
+  -- nothing is passed over between a place and the last pair of the bucket before it
+  pub skips : (a b n : ℕ) → bucket a b ≡ h → place_in ps n a b ≡ along ps (last_in ps n h) a b
+  unfolding last_in place_in along height
+  skips a b zero e = refl
+  skips a b (suc k) e = let ih = skips a b k e in grind (arith, nat_tests)
 
   -- a chain is followed to a place: what is looked for is there, or further along
-  pub record Follows (n b : ℕ) (at : Option ℕ) : Type 0 where
+  pub record Follows (n a b : ℕ) (at : Option ℕ) : Type 0 where
     pub low : height at ≤ n
-    pub begins : IfSome at (λ k. first_at ps k ≡ a)
+    pub bucket : IfSome at (λ k. bucket_at ps k ≡ h)
     pub same : along ps at a b ≡ place_in ps n a b
 
-  pub follows_head : (n b : ℕ) → Follows n b (last_from ps n a)
-  follows_head n b = record { low = last_most n; begins = last_begun n; same = sym (skips b n) }
+  pub follows_head : (n a b : ℕ) → bucket a b ≡ h → Follows n a b (last_in ps n h)
+  follows_head n a b e = record { low = last_most n; bucket = last_bucket n; same = sym (skips a b n e) }
 
-  module _ (n b k : ℕ) (f : Follows n b (Some k)) where
-    here : first_at ps k ≡ a → second_at ps k ≡ b → along ps (Some k) a b ≡ Some k
+  module _ (n a b k : ℕ) (f : Follows n a b (Some k)) where
+    here : is_pair ps k a b ≡ true → along ps (Some k) a b ≡ Some k
     unfolding place_in along height
-    here e s = grind (arith, nat_tests)
+    here e = cond-true _ _ _ e
 
-    onward : first_at ps k ≡ a → (second_at ps k ≡ b → ⊥) → along ps (Some k) a b ≡ along ps (link_of ps k) a b
+    onward : bucket a b ≡ h → is_pair ps k a b ≡ false → along ps (Some k) a b ≡ along ps (last_in ps k h) a b
     unfolding place_in along height
-    onward e s = let j = skips b k in grind (arith, nat_tests)
+    onward e s = cond-false _ _ _ s ∙ skips a b k e
 
     pub below : k < n
     unfolding height
     below = f.low
 
-    pub found : second_at ps k ≡ b → Some k ≡ place_in ps n a b
-    found s = sym (here f.begins s) ∙ f.same
+    pub found : is_pair ps k a b ≡ true → Some k ≡ place_in ps n a b
+    found e = sym (here e) ∙ f.same
 
-    -- what is next in the chain, in place of the chain's own letter
-    next : link_of ps k ≡ last_from ps k a
-    next = ap (last_from ps k) f.begins
+    -- what is next in the chain, in place of the chain's own bucket
+    next : link_of ps k ≡ last_in ps k h
+    next = ap (last_in ps k) f.bucket
 
     pub link_lower : height (link_of ps k) < height (Some k)
     unfolding height
     link_lower = let l : height (link_of ps k) ≤ k = rw next (last_most k) in omega arith
 
-    pub follows_link : (second_at ps k ≡ b → ⊥) → Follows n b (link_of ps k)
-    follows_link s =
-        let e = link_lower in
+    pub follows_link : bucket a b ≡ h → is_pair ps k a b ≡ false → Follows n a b (link_of ps k)
+    follows_link e s =
+        let d = link_lower in
         let l = f.low in
-        record { low = omega arith; begins = rw next (last_begun k); same = sym (onward f.begins s) ∙ f.same }
+        record { low = omega arith; bucket = rw next (last_bucket k); same = ap (λ o. along ps o a b) next ∙ (sym (onward e s) ∙ f.same) }
 
-pub nowhere : (ps : List ℕ) (a n b : ℕ) → Follows ps a n b None → None ≡ place_in ps n a b
+pub nowhere : (ps : List ℕ) (h n a b : ℕ) → Follows ps h n a b None → None ≡ place_in ps n a b
 unfolding place_in along height
-nowhere ps a n b f = f.same
+nowhere ps h n a b f = f.same
 
 -- heads and links while pairs are chained one after the other
 pub no_heads : (ps : List ℕ) → heads_of ps 0 ≡ replicate 256 None
-unfolding last_from
+unfolding last_in
 no_heads ps = refl
 
-pub head_at : (ps : List ℕ) (n a : ℕ) → a < 256 → get_or (heads_of ps n) a None ≡ last_from ps n a
-head_at ps n a h = get_or-map-range_with_len (last_from ps n) 0 256 a a None h (omega arith)
+pub head_at : (ps : List ℕ) (n a : ℕ) → a < 256 → get_or (heads_of ps n) a None ≡ last_in ps n a
+head_at ps n a h = get_or-map-range_with_len (last_in ps n) 0 256 a a None h (omega arith)
 
-last_more : (ps : List ℕ) (n a : ℕ) → last_from ps (n + 1) a ≡ cond (eqb (first_at ps n) a) (Some n) (last_from ps n a)
-unfolding last_from
+last_more : (ps : List ℕ) (n a : ℕ) → last_in ps (n + 1) a ≡ cond (eqb (bucket_at ps n) a) (Some n) (last_in ps n a)
+unfolding last_in
 last_more ps n a = rw add-one
 
-head_more : (ps : List ℕ) (n : ℕ) → first_at ps n < 256 → (a : ℕ) → a < 256 → get_or (set (heads_of ps n) (first_at ps n) (Some n)) a None ≡ get_or (heads_of ps (n + 1)) a None
-head_more ps n h a l =
+head_more : (ps : List ℕ) (n : ℕ) → (a : ℕ) → a < 256 → get_or (set (heads_of ps n) (bucket_at ps n) (Some n)) a None ≡ get_or (heads_of ps (n + 1)) a None
+head_more ps n a l =
+    let h = bucket_below (first_at ps n) (second_at ps n) in
     let m = last_more ps n a in
     let x = head_at ps n a l in
     let y = head_at ps (n + 1) a l in
-    let k = length-map-range_with_len (last_from ps n) 0 256 in
-    let i : first_at ps n < length (heads_of ps n) = omega arith in
-    let same = get_or-set_same (heads_of ps n) (first_at ps n) (Some n) None i in
-    let other = get_or-set_other (heads_of ps n) (first_at ps n) a (Some n) None in
+    let k = length-map-range_with_len (last_in ps n) 0 256 in
+    let i : bucket_at ps n < length (heads_of ps n) = omega arith in
+    let same = get_or-set_same (heads_of ps n) (bucket_at ps n) (Some n) None i in
+    let other = get_or-set_other (heads_of ps n) (bucket_at ps n) a (Some n) None in
     ⊎_elim
-    (λ e. let t = eq-eqb (first_at ps n) a (sym e) in rw e (grind (arith, nat_tests)))
-    (λ e. let o = other e in let t = ne_eqb (first_at ps n) a (λ q. e (sym q)) in grind (arith, nat_tests))
-    (cases_eq a (first_at ps n))
+    (λ e. let t = eq-eqb (bucket_at ps n) a (sym e) in rw e (grind (arith, nat_tests)))
+    (λ e. let o = other e in let t = ne_eqb (bucket_at ps n) a (λ q. e (sym q)) in grind (arith, nat_tests))
+    (cases_eq a (bucket_at ps n))
 
-heads_more : (ps : List ℕ) (n : ℕ) → first_at ps n < 256 → set (heads_of ps n) (first_at ps n) (Some n) ≡ heads_of ps (n + 1)
-heads_more ps n h =
-    let j = length-set (heads_of ps n) (first_at ps n) (Some n) in
-    let k = length-map-range_with_len (last_from ps n) 0 256 in
-    let m = length-map-range_with_len (last_from ps (n + 1)) 0 256 in
-    ext_get_or None _ _ (j ∙ k ∙ sym m) (λ a l. head_more ps n h a (omega arith))
+under : (n a m : ℕ) → n ≡ m → a < n → a < m
+under n a m e l = omega (arith, e, l)
+
+heads_more : (ps : List ℕ) (n : ℕ) → set (heads_of ps n) (bucket_at ps n) (Some n) ≡ heads_of ps (n + 1)
+heads_more ps n =
+    let j = length-set (heads_of ps n) (bucket_at ps n) (Some n) in
+    let k = length-map-range_with_len (last_in ps n) 0 256 in
+    let m = length-map-range_with_len (last_in ps (n + 1)) 0 256 in
+    ext_get_or None _ _ (j ∙ k ∙ sym m) (λ a l. head_more ps n a (under _ a 256 (j ∙ k) l))
 
 link_more : (ps : List ℕ) (links : List (Option ℕ)) (n : ℕ) → n < length links → ((k : ℕ) → k < n → get_or links k None ≡ link_of ps k) →
     (k : ℕ) → k < n + 1 → get_or (set links n (link_of ps n)) k None ≡ link_of ps k
@@ -131,11 +139,12 @@ pub record Linked (ps : List ℕ) (n : ℕ) (heads links : List (Option ℕ)) : 
   pub linked : (k : ℕ) → k < n → get_or links k None ≡ link_of ps k
 
 pub linked_more :
-    (ps : List ℕ) (n : ℕ) (heads links : List (Option ℕ)) → first_at ps n < 256 → n < length links → Linked ps n heads links →
-    Linked ps (n + 1) (set heads (first_at ps n) (Some n)) (set links n (get_or heads (first_at ps n) None))
-linked_more ps n heads links f l h =
-    let a = ap (λ hs. get_or hs (first_at ps n) None) h.begun ∙ head_at ps n (first_at ps n) f in
+    (ps : List ℕ) (n : ℕ) (heads links : List (Option ℕ)) → n < length links → Linked ps n heads links →
+    Linked ps (n + 1) (set heads (bucket_at ps n) (Some n)) (set links n (get_or heads (bucket_at ps n) None))
+linked_more ps n heads links l h =
+    let f = bucket_below (first_at ps n) (second_at ps n) in
+    let a = ap (λ hs. get_or hs (bucket_at ps n) None) h.begun ∙ head_at ps n (bucket_at ps n) f in
     record {
-      begun = ap (λ hs. set hs (first_at ps n) (Some n)) h.begun ∙ heads_more ps n f;
+      begun = ap (λ hs. set hs (bucket_at ps n) (Some n)) h.begun ∙ heads_more ps n;
       linked = λ k j. ap (λ v. get_or (set links n v) k None) a ∙ link_more ps links n l h.linked k j;
     }

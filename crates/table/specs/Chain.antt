@@ -1,17 +1,25 @@
--- The pairs that begin with the same letter, chained from the last to the first.
-use Rattle.std.specs.Prelude.{ℕ, zero, suc, cond, List, map, Some, None, Option, ◌==◌}
+-- The pairs chained, so that looking one up meets few others: those of the same bucket, from the last to the first.
+use Rattle.std.specs.Prelude.{ℕ, zero, suc, ◌+◌, ◌*◌, ◌%◌, cond, List, map, Some, None, Option, ◌==◌}
 use Rattle.std.specs.List.{range_with_len}
-use Rattle.table.specs.Numbers.{first_at}
+use Rattle.table.specs.Numbers.{first_at, second_at}
 
--- the last place below n at which a pair begins with the letter a
-unfoldable pub last_from : List ℕ → (n : ℕ) → ℕ → Option ℕ
-last_from ps zero a = None
-last_from ps (suc k) a = cond (first_at ps k == a) (Some k) (last_from ps k a)
+-- the bucket of two letters; pairs that begin with the same letter have each a bucket of its own
+unfoldable pub bucket : ℕ → ℕ → ℕ
+bucket a b = (31 * a % 256 + b) % 256
 
--- where the chain of each letter begins, if the first n pairs are chained
+-- that of the pair at place k
+abbrev pub bucket_at : List ℕ → ℕ → ℕ
+bucket_at ps k = bucket (first_at ps k) (second_at ps k)
+
+-- the last place below n at which a pair of this bucket stands
+unfoldable pub last_in : List ℕ → (n : ℕ) → (bucket : ℕ) → Option ℕ
+last_in ps zero h = None
+last_in ps (suc k) h = cond (bucket_at ps k == h) (Some k) (last_in ps k h)
+
+-- where the chain of each bucket begins, if the first n pairs are chained
 abbrev pub heads_of : List ℕ → (n : ℕ) → List (Option ℕ)
-heads_of ps n = map (last_from ps n) (range_with_len 0 256)
+heads_of ps n = map (last_in ps n) (range_with_len 0 256)
 
 -- what is next in the chain behind the pair at place k
 abbrev pub link_of : List ℕ → ℕ → Option ℕ
-link_of ps k = last_from ps k (first_at ps k)
+link_of ps k = last_in ps k (bucket_at ps k)

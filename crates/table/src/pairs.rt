@@ -1,5 +1,5 @@
-// The pairs of a table, five numbers each: two letters and three weights. Those that begin with the same letter are chained
-// from the last to the first, so that looking one up meets no pair that begins with another letter.
+// The pairs of a table, five numbers each: two letters and three weights. Those of the same bucket are chained from the last to
+// the first, so that looking one up meets few others.
 ghost use Rattle.std.specs.Prelude.{◌≡◌, ℕ, ◌*◌, ◌<◌, ◌≤◌, length, None, slice_index_or};
 ghost use Rattle.table.specs.Chain.{heads_of, link_of};
 ghost use Rattle.table.specs.Refusals.{first_place, foreign, repeated};
@@ -12,9 +12,9 @@ pub struct Pairs<'a> {
     numbers: &'a [u16],
     // How many of them are chained: the first so many, and all in a table. While they are chained it says how far that is.
     count: usize,
-    // For each letter the last pair that begins with it. Places in arrays, and not lists, since a table asks for no memory.
+    // For each bucket the last pair that is in it. Places in arrays, and not lists, since a table asks for no memory.
     heads: [Option<u8>; 256],
-    // For each pair the one before it that begins with the same letter.
+    // For each pair the one before it that is in the same bucket.
     links: [Option<u8>; 200],
     ghost within: { 5 * count ≤ length numbers.now },
     ghost few: { count ≤ 200 },

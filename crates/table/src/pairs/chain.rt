@@ -1,11 +1,12 @@
 // Chaining pairs.
 ghost use Rattle.std.specs.Prelude.{◌≡◌, ◌+◌, ◌*◌, ◌/◌, ◌<◌, ◌≤◌, false, length, None};
 ghost use Rattle.table.specs.Meaning.{AllChained, AreChained};
-ghost use Rattle.table.specs.Numbers.{first_at};
+ghost use Rattle.table.specs.Chain.{bucket, bucket_at};
 ghost use Rattle.table.specs.Refusals.{first_place, foreign, repeated};
 
 use crate::fault::Refusal;
 use crate::pairs::Pairs;
+use crate::pairs::find::bucket;
 
 impl<'a> Pairs<'a> {
     // No pair is chained yet.
@@ -34,23 +35,23 @@ impl<'a> Pairs<'a> {
             if self.locate(first, second).is_some() {
                 return Err(Refusal::Twice(place));
             }
-            self.link(first);
+            self.link(first, second);
         }
         Ok(())
     }
 
-    // The next pair is chained, in front of those that begin with the same letter.
-    fn link(&mut self, first: u8)
+    // The next pair is chained, in front of those that are in the same bucket.
+    fn link(&mut self, first: u8, second: u8)
         requires within { 5 * self.old.count + 5 ≤ length self.old.numbers.now }
         requires few { self.old.count < 200 }
-        requires first { first_at self.old.numbers.now self.old.count ≡ first }
+        requires bucket { bucket_at self.old.numbers.now self.old.count ≡ bucket first second }
         requires known { foreign self.old.numbers.now self.old.count ≡ false }
         requires apart { repeated self.old.numbers.now self.old.count ≡ false }
         ensures { AreChained self.old.numbers.now (self.old.count + 1) self.new }
     {
-        let letter = first as usize;
-        self.links[self.count] = self.heads[letter];
-        self.heads[letter] = Some(self.count as u8);
+        let bucket = bucket(first, second) as usize;
+        self.links[self.count] = self.heads[bucket];
+        self.heads[bucket] = Some(self.count as u8);
         self.count += 1;
     }
 }

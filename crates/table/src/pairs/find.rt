@@ -2,7 +2,8 @@
 ghost use Rattle.std.specs.Prelude.{◌≡◌, ◌+◌, ◌*◌, ◌<◌, IfSome};
 ghost use Rattle.std.specs.List.{slice_get};
 ghost use Rattle.std.specs.Option.{option_map};
-ghost use Rattle.table.specs.Numbers.{pairs_in, place_in, weights_at};
+ghost use Rattle.table.specs.Chain.{bucket};
+ghost use Rattle.table.specs.Numbers.{is_pair, pairs_in, place_in, weights_at};
 
 use crate::layout::{read_pair, weights_at};
 use crate::pairs::Pairs;
@@ -45,14 +46,30 @@ impl<'a> Pairs<'a> {
         ensures place { result ≡ place_in self.now.numbers.now self.now.count first second }
         ensures bound { IfSome result (λ k. k < self.now.count) }
     {
-        let mut at = self.heads[first as usize];
+        let mut at = self.heads[bucket(first, second) as usize];
         while let Some(place) = at {
             let k = place as usize;
-            if self.numbers[5 * k + 1] == second as u16 {
+            if self.is_at(k, first, second) {
                 return Some(k);
             }
             at = self.links[k];
         }
         None
     }
+
+    // Whether the pair at a place is of these two letters.
+    fn is_at(&self, place: usize, first: u8, second: u8) -> bool
+        requires { place < self.now.count }
+        ensures { result ≡ is_pair self.now.numbers.now place first second }
+    {
+        self.numbers[5 * place] == first as u16 && self.numbers[5 * place + 1] == second as u16
+    }
+}
+
+// The bucket of two letters.
+#[tactic(auto, unfolding(crate::specs::Chain::bucket))]
+pub(crate) fn bucket(first: u8, second: u8) -> u8
+    ensures { result ≡ bucket first second }
+{
+    first.wrapping_mul(31).wrapping_add(second)
 }

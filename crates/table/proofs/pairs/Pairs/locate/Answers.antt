@@ -1,39 +1,39 @@
-use Rattle.std.proofs.Common.{arith}
-use Rattle.table.proofs.Chaining.{below, follows_head, follows_link, found, head_at, link_lower, nowhere}
+use Rattle.std.proofs.Common.{refl, sym, ◌∙◌, arith}
+use Rattle.table.specs.Chain.{bucket}
+use Rattle.table.proofs.Chaining.{below, bucket_below, follows_head, follows_link, found, head_at, link_lower, nowhere}
 use Rattle.table.proofs.pairs.Pairs.locate.Goals as goal
 
 pub loop-at-init : goal.loop-at-init
 loop-at-init c =
     let p = c.args.self.now in
     let e = p.begun in
-    let h = head_at p.numbers.now p.count c.args.first (omega arith) in
-    rw (e, h) (follows_head p.numbers.now c.args.first p.count c.args.second)
+    let b = c.bucket.ensures in
+    let h = head_at p.numbers.now p.count (bucket c.args.first c.args.second) (bucket_below c.args.first c.args.second) in
+    rw (e, b, h) (follows_head p.numbers.now (bucket c.args.first c.args.second) p.count c.args.first c.args.second refl)
+
+pub is_at-requires : goal.is_at-requires
+is_at-requires c =
+    let p = c.args.self.now in
+    let e = c.in-Some.is in
+    let i = c.loop-at.invariant in
+    below p.numbers.now (bucket c.args.first c.args.second) p.count c.args.first c.args.second c.in-Some.place (rw e at i)
+
+pub returns-then-is_at : goal.returns-then-is_at
+returns-then-is_at c =
+    let p = c.args.self.now in
+    let e = c.in-Some.is in
+    let i = c.loop-at.invariant in
+    record {
+      place = found p.numbers.now (bucket c.args.first c.args.second) p.count c.args.first c.args.second c.in-Some.place (rw e at i) (sym c.is_at.ensures ∙ c.if-is_at.true);
+      bound = below p.numbers.now (bucket c.args.first c.args.second) p.count c.args.first c.args.second c.in-Some.place (rw e at i);
+    }
 
 pub bounds-self-k : goal.bounds-self-k
 bounds-self-k c =
     let p = c.args.self.now in
     let e = c.in-Some.is in
     let i = c.loop-at.invariant in
-    let b = below p.numbers.now c.args.first p.count c.args.second c.in-Some.place (rw e at i) in
-    let w = p.within in
-    omega arith
-
-pub returns-then-self-k : goal.returns-then-self-k
-returns-then-self-k c =
-    let p = c.args.self.now in
-    let e = c.in-Some.is in
-    let i = c.loop-at.invariant in
-    record {
-      place = found p.numbers.now c.args.first p.count c.args.second c.in-Some.place (rw e at i) c.if-self-k.true;
-      bound = below p.numbers.now c.args.first p.count c.args.second c.in-Some.place (rw e at i);
-    }
-
-pub bounds-self-k-in-Some : goal.bounds-self-k-in-Some
-bounds-self-k-in-Some c =
-    let p = c.args.self.now in
-    let e = c.in-Some.is in
-    let i = c.loop-at.invariant in
-    let b = below p.numbers.now c.args.first p.count c.args.second c.in-Some.place (rw e at i) in
+    let b = below p.numbers.now (bucket c.args.first c.args.second) p.count c.args.first c.args.second c.in-Some.place (rw e at i) in
     let w = p.few in
     omega arith
 
@@ -42,22 +42,22 @@ loop-at-smaller c =
     let p = c.args.self.now in
     let e = c.in-Some.is in
     let i = c.loop-at.invariant in
-    let b = below p.numbers.now c.args.first p.count c.args.second c.in-Some.place (rw e at i) in
+    let b = below p.numbers.now (bucket c.args.first c.args.second) p.count c.args.first c.args.second c.in-Some.place (rw e at i) in
     let l = p.linked c.in-Some.place b in
-    rw (e, l) (link_lower p.numbers.now c.args.first p.count c.args.second c.in-Some.place (rw e at i))
+    rw (e, l) (link_lower p.numbers.now (bucket c.args.first c.args.second) p.count c.args.first c.args.second c.in-Some.place (rw e at i))
 
 pub loop-at-preserved : goal.loop-at-preserved
 loop-at-preserved c =
     let p = c.args.self.now in
     let e = c.in-Some.is in
     let i = c.loop-at.invariant in
-    let b = below p.numbers.now c.args.first p.count c.args.second c.in-Some.place (rw e at i) in
+    let b = below p.numbers.now (bucket c.args.first c.args.second) p.count c.args.first c.args.second c.in-Some.place (rw e at i) in
     let l = p.linked c.in-Some.place b in
-    rw l (follows_link p.numbers.now c.args.first p.count c.args.second c.in-Some.place (rw e at i) c.if-self-k.false)
+    rw l (follows_link p.numbers.now (bucket c.args.first c.args.second) p.count c.args.first c.args.second c.in-Some.place (rw e at i) refl (sym c.is_at.ensures ∙ c.if-is_at.false))
 
 pub returns : goal.returns
 returns c =
     let p = c.args.self.now in
     let e = c.in_default.is in
     let i = c.loop-at.invariant in
-    record { place = nowhere p.numbers.now c.args.first p.count c.args.second (rw e at i); bound = tt }
+    record { place = nowhere p.numbers.now (bucket c.args.first c.args.second) p.count c.args.first c.args.second (rw e at i); bound = tt }
