@@ -4,3 +4,4 @@ pub mod Stepping
 pub mod Bounding
 pub mod Entering
 pub mod Filling
+pub mod Gathering

@@ -1,15 +1,17 @@
 -- Steps along a row: what one takes, and what is left then.
-use Rattle.std.proofs.Common.{◌≡◌, ℕ, ◌+◌, ◌<◌, cond, eqb, List, [], ◌∷◌, length, drop, Some, None, Option, Bor, sym, refl, ap, ◌∙◌, subst, arith}
-use Rattle.std.proofs.lemmas.Bool.{cond-false, cond-true, eq-eqb, ne_eqb}
+use Rattle.std.proofs.Common.{◌≡◌, ℕ, ◌+◌, ◌<◌, Bool, true, false, cond, eqb, List, [], ◌∷◌, length, drop, Some, None, Option, Bor, sym, refl, ap, ◌∙◌, arith}
+use Rattle.std.proofs.lemmas.Bool.{cond-true, eq-eqb}
+use Rattle.std.proofs.lemmas.Bool.Decides.{nat_tests}
 use Rattle.std.proofs.lemmas.List.{drop-drop}
 use Rattle.table.specs.declared.piece.Weights.{Weights}
 use Rattle.table.specs.Meaning.{rules_of}
 use Rattle.table.specs.Rules.{Rules}
 use Rattle.keys.specs.declared.level.Level.{Level}
-use Rattle.keys.specs.declared.row.Row.{Row}
+use Rattle.keys.specs.declared.level.Level.TheVariants.{Primary, Secondary, Tertiary}
+use Rattle.keys.specs.declared.walk.Walk.{Walk}
 use Rattle.keys.specs.Pieces.{pieces}
 use Rattle.keys.specs.Rows.{on, row, weight, without_zeros}
-use Rattle.keys.specs.Reading.{FurtherOn, PairAt, Rowed, front_pair, next_pair, row_left, some_weight}
+use Rattle.keys.specs.Reading.{AreShort, Stepped, WalkedOn, counts, front_pair, left_of, next_pair}
 use Rattle.keys.proofs.Pieces.{apart, one_joins, one_taken, one_weighs, two_taken}
 
 module _ (l : Level) (t : Rules) where
@@ -36,33 +38,64 @@ module _ (l : Level) (t : Rules) where
       let run = a ∷ (b ∷ []) in
       taken x (a ∷ (b ∷ n)) run n (two_taken t.joins a b n (one_joins t run w e)) (v ∙ ap (on l) (sym (one_weighs t run w e)))
 
-module _ (r : Row) where
+-- each weight of 16 bits
+pub short : (w : Weights) → w.primary < 65536 → w.secondary < 65536 → w.tertiary < 65536 → AreShort w
+short w p s t Primary = p
+short w p s t Secondary = s
+short w p s t Tertiary = t
+
+module _ (w : Walk) where
   abbrev rules : Rules
-  rules = rules_of r.table.now
+  rules = rules_of w.table.now
 
-  -- the same row with so much left of the name
-  abbrev pub moved : (rest : Bor (List ℕ)) → Row
-  moved rest = record { table = r.table; level = r.level; rest = rest }
+  -- where a walk has come to, some letters having been taken, and what they weigh
+  abbrev pub CameTo : Walk → Type 0
+  CameTo v =
+      ((l : Level) → left_of l w ≡ led l rules (on l v.weights) v.rest.now)
+      × WalkedOn w v × (length v.rest.now < length w.rest.now)
 
-  pub ended : length r.rest.now ≡ 0 → Rowed r None r
-  ended h = let e = at_end r.level rules r.rest.now h in (e, e, (refl, refl, (0, refl)))
+  pub ended : length w.rest.now ≡ 0 → Stepped w false w
+  ended h = ((λ l. (at_end l rules w.rest.now h, at_end l rules w.rest.now h)), (refl, (0, refl)))
 
-  pub letter_read : (x a : ℕ) (n : List ℕ) (w : Weights) → r.rest.now ≡ a ∷ n → next_pair r ≡ None → w ≡ rules.weighs (a ∷ []) → x ≡ on r.level w → row_left r ≡ led r.level rules x n
-  letter_read x a n w f none e v = ap (row r.level rules) f ∙ at_letter r.level rules x a n w (sym (ap (front_pair rules) f) ∙ none) e v
+  pub letter_read : (a : ℕ) (rest : Bor (List ℕ)) (v : Weights) → w.rest.now ≡ a ∷ rest.now → next_pair w ≡ None → v ≡ rules.weighs (a ∷ []) →
+      CameTo (record { table = w.table; rest = rest; weights = v })
+  letter_read a rest v f none e = (
+    (λ l. ap (row l rules) f ∙ at_letter l rules (on l v) a rest.now v (sym (ap (front_pair rules) f) ∙ none) e refl),
+    (refl, (1, sym (ap (drop 1) f))),
+    (let g = ap length f in omega arith),
+  )
 
-  pub pair_read : (x : ℕ) (n : List ℕ) → n ≡ drop 2 r.rest.now → PairAt r x → row_left r ≡ led r.level rules x n
-  pair_read x n d p = at_pair r.level rules x r.rest.now p.0 p.1 p.2 ∙ ap (led r.level rules x) (sym d)
+  two : (n : List ℕ) (v : Weights) → front_pair rules n ≡ Some v → length (drop 2 n) < length n
+  two [] v e = grind arith
+  two (a ∷ []) v e = grind arith
+  two (a ∷ (b ∷ n)) v e = omega arith
 
-  further : (k : ℕ) (rest : Bor (List ℕ)) → rest.now ≡ drop k r.rest.now → (s : Row) → FurtherOn (moved rest) s → FurtherOn r s
-  further k rest d s w = (w.0, w.1, (k + w.2.0, w.2.1 ∙ ap (drop w.2.0) d ∙ drop-drop w.2.0 k r.rest.now))
+  pub pair_read : (rest : Bor (List ℕ)) → rest.now ≡ drop 2 w.rest.now → next_pair w ≡ Some w.weights → CameTo (record { table = w.table; rest = rest; weights = w.weights })
+  pair_read rest d p = (
+    (λ l. at_pair l rules (on l w.weights) w.rest.now w.weights p refl ∙ ap (led l rules (on l w.weights)) (sym d)),
+    (refl, (2, d)),
+    (let g = two w.rest.now w.weights p in let h = ap length d in omega arith),
+  )
 
-  -- what counts is handed back
-  pub stops : (x k : ℕ) (rest : Bor (List ℕ)) → rest.now ≡ drop k r.rest.now → row_left r ≡ led r.level rules x rest.now → (x ≡ 0 → ⊥) → x < 65536 → Rowed r (some_weight x) (moved rest)
-  stops x k rest d e z small =
-      let f = ne_eqb x 0 z in
-      subst (λ o. Rowed r o (moved rest)) (sym (cond-false (eqb x 0) None (Some x) f)) (e ∙ cond-false (eqb x 0) _ _ f, small, (refl, refl, (k, d)))
+  module _ (v : Walk) (c : CameTo v) where
+    -- what counts is where a step ends
+    pub stops : AreShort v.weights → Stepped w true v
+    stops small = ((λ l. c.0 l ∙ ap (λ t. led l (rules_of t.now) (on l v.weights) v.rest.now) (sym c.1.0)), small, c.1, c.2)
 
-  -- what doesn't is passed over
-  pub passes : (x k : ℕ) (rest : Bor (List ℕ)) (o : Option ℕ) (s : Row) → Rowed (moved rest) o s → rest.now ≡ drop k r.rest.now → row_left r ≡ led r.level rules x rest.now → x ≡ 0 → Rowed r o s
-  passes x k rest None s w d e z = (e ∙ (cond-true (eqb x 0) _ _ (eq-eqb x 0 z) ∙ w.0), w.1, further k rest d s w.2)
-  passes x k rest (Some y) s w d e z = (e ∙ (cond-true (eqb x 0) _ _ (eq-eqb x 0 z) ∙ w.0), w.1, further k rest d s w.2)
+    none_there : (l : Level) → counts v.weights ≡ false → on l v.weights ≡ 0
+    none_there Primary e = grind (arith, nat_tests)
+    none_there Secondary e = grind (arith, nat_tests)
+    none_there Tertiary e = grind (arith, nat_tests)
+
+    passed : (l : Level) → counts v.weights ≡ false → left_of l w ≡ left_of l v
+    passed l e =
+        c.0 l ∙ cond-true (eqb (on l v.weights) 0) _ _ (eq-eqb (on l v.weights) 0 (none_there l e))
+        ∙ ap (λ t. row l (rules_of t.now) v.rest.now) (sym c.1.0)
+
+    further : (s : Walk) → WalkedOn v s → WalkedOn w s
+    further s m = (m.0 ∙ c.1.0, (c.1.1.0 + m.1.0, m.1.1 ∙ ap (drop m.1.0) c.1.1.1 ∙ drop-drop m.1.0 c.1.1.0 w.rest.now))
+
+    -- what doesn't is passed over
+    pub passes : (b : Bool) (s : Walk) → counts v.weights ≡ false → Stepped v b s → Stepped w b s
+    passes true s e g = ((λ l. passed l e ∙ g.0 l), g.1, further s g.2, omega (arith, c.2, g.3))
+    passes false s e g = ((λ l. (passed l e ∙ (g.0 l).0, (g.0 l).1)), further s g.1)

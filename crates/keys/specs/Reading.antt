@@ -1,5 +1,5 @@
 -- Reading along a row and along a key.
-use Rattle.std.specs.Prelude.{◌≡◌, ℕ, ◌<◌, cond, List, [], ◌∷◌, drop, Some, None, Option, ◌==◌}
+use Rattle.std.specs.Prelude.{◌≡◌, ℕ, ◌<◌, Bool, true, false, not, ◌&&◌, cond, List, [], ◌∷◌, drop, length, Some, None, Option, ◌==◌}
 use Rattle.table.specs.declared.piece.Weights.{Weights}
 use Rattle.table.specs.Meaning.{rules_of}
 use Rattle.table.specs.Rules.{Rules, contraction}
@@ -7,6 +7,7 @@ use Rattle.keys.specs.declared.level.Level.{Level}
 use Rattle.keys.specs.declared.level.Level.TheVariants.{Primary, Secondary, Tertiary}
 use Rattle.keys.specs.declared.numbers.KeyNumbers.{KeyNumbers}
 use Rattle.keys.specs.declared.row.Row.{Row}
+use Rattle.keys.specs.declared.walk.Walk.{Walk}
 use Rattle.keys.specs.Rows.{joined, on, row}
 
 -- what the first two letters weigh, where they are there and are one together
@@ -16,24 +17,48 @@ front_pair t (a ∷ []) = None
 front_pair t (a ∷ (b ∷ n)) = contraction t (a ∷ (b ∷ []))
 
 -- the same of the next two
-abbrev pub next_pair : Row → Option Weights
-next_pair r = front_pair (rules_of r.table.now) r.rest.now
+abbrev pub next_pair : Walk → Option Weights
+next_pair w = front_pair (rules_of w.table.now) w.rest.now
 
--- they are, and weigh so on the level
-abbrev pub PairAt : Row → (w : ℕ) → Type 0
-PairAt r w = (v : Weights) × (next_pair r ≡ Some v) × (w ≡ on r.level v)
+-- each weight is one of 16 bits
+abbrev pub AreShort : Weights → Type 0
+AreShort w = (l : Level) → on l w < 65536
 
--- a weight that counts; 0 is none
-abbrev pub some_weight : ℕ → Option ℕ
-some_weight x = cond (x == 0) None (Some x)
+-- they are, and weigh so
+abbrev pub PairAt : Walk → Type 0
+PairAt w = (next_pair w ≡ Some w.weights) × AreShort w.weights
+
+-- on some level it doesn't weigh 0
+abbrev pub counts : Weights → Bool
+counts w = not (w.primary == 0 && (w.secondary == 0 && w.tertiary == 0))
+
+-- a weight in front of a row, unless it is 0
+abbrev pub in_front : ℕ → List ℕ → List ℕ
+in_front x r = cond (x == 0) r (x ∷ r)
+
+-- what is still to come of a level's row
+abbrev pub left_of : Level → Walk → List ℕ
+left_of l w = row l (rules_of w.table.now) w.rest.now
+
+-- the same name, further on: some letters of what was left have been taken
+abbrev pub WalkedOn : Walk → Walk → Type 0
+WalkedOn w v = (v.table ≡ w.table) × ((k : ℕ) × (v.rest.now ≡ drop k w.rest.now))
+
+-- The next piece that counts on some level has been taken, and what it weighs stands in front of what is left of each row; or
+-- nothing is left of any.
+abbrev pub Stepped : Walk → Bool → Walk → Type 0
+Stepped w true v =
+    ((l : Level) → left_of l w ≡ in_front (on l v.weights) (left_of l v)) × AreShort v.weights
+    × WalkedOn w v × (length v.rest.now < length w.rest.now)
+Stepped w false v = ((l : Level) → (left_of l w ≡ []) × (left_of l v ≡ [])) × WalkedOn w v
 
 -- what is still to come of a row
 abbrev pub row_left : Row → List ℕ
-row_left r = row r.level (rules_of r.table.now) r.rest.now
+row_left r = left_of r.level r.walk
 
--- the same row, further on: some letters of what was left have been taken
+-- the same row, further on
 abbrev pub FurtherOn : Row → Row → Type 0
-FurtherOn r s = (s.table ≡ r.table) × (s.level ≡ r.level) × ((k : ℕ) × (s.rest.now ≡ drop k r.rest.now))
+FurtherOn r s = (s.level ≡ r.level) × WalkedOn r.walk s.walk
 
 -- the next weight of a row, and what is left then
 abbrev pub Rowed : Row → Option ℕ → Row → Type 0
@@ -49,7 +74,7 @@ key_left t n Tertiary rest = joined (row Tertiary t rest ∷ [])
 
 -- what is still to come of a key that is being read
 abbrev pub numbers_left : KeyNumbers → List ℕ
-numbers_left k = key_left (rules_of k.row.table.now) k.name.now k.row.level k.row.rest.now
+numbers_left k = key_left (rules_of k.row.walk.table.now) k.name.now k.row.level k.row.walk.rest.now
 
 -- the next number of a key, and what is left then
 abbrev pub Numbered : KeyNumbers → Option ℕ → KeyNumbers → Type 0

@@ -3,7 +3,6 @@ ghost use Rattle.keys.specs.Entry.{KeySays};
 
 use crate::fault::NameRefusal;
 use crate::fill::fill;
-use crate::numbers::KeyNumbers;
 use crate::sort_key::has_room;
 use table::Table;
 
@@ -39,5 +38,5 @@ pub fn make_key(
     if let Err(short) = has_room(&table, name, room.len()) {
         return Done::Short(short.needs as u64);
     }
-    Done::Keyed(fill(KeyNumbers::new(&table, name), room) as u64)
+    Done::Keyed(fill(&table, name, room) as u64)
 }

@@ -1,6 +1,6 @@
 // Names as rows of weights, and their sort keys.
 //
-// A `Row` reads a name along one of three levels (row, level), and `KeyNumbers` the rows of all levels, one after the other
+// A `Walk` reads a name piece by piece (walk), a `Row` its weights on one of three levels (row, level), and `KeyNumbers` the rows of all levels, one after the other
 // (numbers). The trait `SortKeys` gives a checked `Table` the methods that measure, write and make a key (sort_key);
 // `make_key` does it from lent numbers alone (entry). What is turned away is a `NameRefusal` (fault), and `key_laws` carries
 // what is promised of every name (laws).
@@ -13,7 +13,9 @@ mod laws;
 mod level;
 mod numbers;
 mod row;
+mod rows;
 mod sort_key;
+mod walk;
 
 pub use entry::{Done, make_key};
 pub use fault::{KeyError, NameRefusal};

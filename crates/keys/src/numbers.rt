@@ -41,7 +41,7 @@ impl Iterator for KeyNumbers<'_, '_, '_> {
             Some(weight) => Some(weight),
             None => {
                 let level = self.row.level.behind()?;
-                self.row = Row::new(self.row.table, level, self.name);
+                self.row = Row::new(self.row.walk.table, level, self.name);
                 Some(0)
             }
         }

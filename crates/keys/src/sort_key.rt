@@ -44,7 +44,7 @@ impl SortKeys for Table<'_> {
 
     fn write_key(&self, name: &[u8], room: &mut [u32]) -> Result<usize, Short> {
         has_room(self, name, room.len())?;
-        Ok(fill(KeyNumbers::new(self, name), room))
+        Ok(fill(self, name, room))
     }
 
     fn sort_key(&self, heap: Global, name: &[u8]) -> Result<Vec<u32>, KeyError> {

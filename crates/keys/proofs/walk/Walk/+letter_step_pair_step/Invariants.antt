@@ -1,5 +1,5 @@
 use Rattle.std.proofs.Common.{◌+◌, ◌*◌, length}
-use Rattle.keys.proofs.row.Row.+letter_step_pair_step.Given as goal
+use Rattle.keys.proofs.walk.Walk.+letter_step_pair_step.Given as goal
 
 abbrev pub decreases-letter_step : goal.decreases-letter_step
 decreases-letter_step l = 2 * length l.self.now.rest.now + 1

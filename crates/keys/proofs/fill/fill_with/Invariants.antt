@@ -1,7 +1,7 @@
 use Rattle.std.proofs.Common.{map}
 use Rattle.keys.specs.Reading.{numbers_left}
 use Rattle.keys.proofs.Filling.{Filled}
-use Rattle.keys.proofs.fill.fill.Given as goal
+use Rattle.keys.proofs.fill.fill_with.Given as goal
 
 abbrev pub invariant-loop-number : goal.invariant-loop-number
 invariant-loop-number g l =
