@@ -1,10 +1,11 @@
 -- What the check of lists finds.
-use Rattle.std.proofs.Common.{Option, MatchOption, nat_lt, nat_le, ◌&&◌, [], ◌∷◌, ◌∙◌, ◌≡◌, ℕ, zero, suc, ◌+◌, ◌-◌, ◌<◌, ◌≤◌, Bool, true, false, None, Some, length, slice_index_or, List, refl, sym, add-one, arith}
+use Rattle.std.proofs.Common.{Option, MatchOption, nat_lt, nat_le, ◌&&◌, [], ◌∷◌, ◌∙◌, ◌≡◌, ℕ, zero, suc, ◌+◌, ◌-◌, ◌<◌, ◌≤◌, Bool, true, false, None, Some, length, drop, slice_index_or, List, refl, sym, add-one, arith}
 use Rattle.std.proofs.lemmas.Bool.{eq-eqb, ne_eqb, true≢false}
 use Rattle.std.proofs.lemmas.Bool.Decides.{nat_tests}
+use Rattle.std.proofs.lemmas.List.{length-take}
 use Rattle.table.proofs.Firsts.{first_below, first_is, looked_through, none_at, none_more}
 use Rattle.table.specs.Refusals.{first_place}
-use Rattle.catalogue.specs.Lists.{Lists, falls, name_at, names_fault, no_such_name, out_of_order, places_fault, too_long}
+use Rattle.catalogue.specs.Lists.{Lists, falls, letters_of, name_at, name_of, names_fault, no_such_name, out_of_order, places_fault, too_long}
 use Rattle.order.specs.Names.{name_order}
 use Rattle.std.specs.List.{AllWithin, HoldsAt}
 use Rattle.std.specs.Ordering.{is_lt}
@@ -49,6 +50,14 @@ module _ (text starts : List ℕ) (e : names_fault text starts ≡ None) where
       let r = rises_to (length starts - 1 - i) i (omega arith) in
       let n : i + (length starts - 1 - i) ≡ length starts - 1 = omega arith in
       grind arith
+
+  -- no name is too long
+  pub short : (i : ℕ) → i + 1 < length starts → length (name_of text starts i) ≤ 1000
+  short i l =
+      let f = none_at (too_long starts) (length starts - 1) (sound text starts e).none_too_long i (omega arith) in
+      let g : letters_of starts i ≤ 1000 = grind (arith, nat_tests) in
+      let t = length-take (letters_of starts i) (drop (slice_index_or starts i 0) text) in
+      omega (arith, g, t)
 
 -- a test that the first place can't pass, since none is in front of it, tried at one place after the other
 module _ (p : ℕ → Bool) where

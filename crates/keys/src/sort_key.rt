@@ -47,12 +47,14 @@ impl SortKeys for Table<'_> {
         Ok(fill(self, name, room))
     }
 
+    #[tactic(auto, using(crate::proofs::Bounding::key_few))]
     fn sort_key(&self, heap: Global, name: &[u8]) -> Result<Vec<u32>, KeyError> {
         if let Some(why) = NameRefusal::of(name) {
             return Err(KeyError::Refused(why));
         }
-        let mut key = Vec::with_capacity(heap, 3 * name.len() + 2)?;
-        key.extend(KeyNumbers::new(self, name))?;
+        let mut key = vec![in heap; 0; 3 * name.len() + 2]?;
+        let numbers = fill(self, name, &mut key);
+        key.truncate(numbers);
         Ok(key)
     }
 }

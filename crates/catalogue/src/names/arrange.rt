@@ -1,11 +1,11 @@
 // Putting names in order.
-ghost use Rattle.std.specs.Prelude.{ℕ, ◌+◌, ◌-◌, ◌^◌, ◌<◌, ◌≤◌, IfOk, length, slice_index_or, vec_items};
+ghost use Rattle.std.specs.Prelude.{◌≡◌, ◌++◌, ℕ, ◌+◌, ◌-◌, ◌^◌, ◌<◌, ◌≤◌, IfOk, length, slice_index_or, vec_items};
 ghost use Rattle.table.specs.Meaning.{rules_of};
 ghost use Rattle.keys.specs.Rows.{key};
 
 use crate::fault::{OrderError, TooMany};
 use crate::names::Names;
-use keys::KeyNumbers;
+use keys::SortKeys;
 use std::alloc::{AllocError, Global};
 use table::Table;
 
@@ -82,10 +82,28 @@ impl Names<'_> {
         let mut numbers = Vec::with_capacity(heap, most.saturating_add(2 * self.count()))?;
         let mut bounds = Vec::with_capacity(heap, self.count() + 1)?;
         bounds.push(0)?;
+        let mut room = [0; 3002];
         for number in 0..self.count() {
-            numbers.extend(KeyNumbers::new(table, self.at(number)))?;
+            push_key(table, self.at(number), &mut room, &mut numbers)?;
             bounds.push(numbers.len())?;
         }
         Ok((numbers, bounds))
     }
+}
+
+// A name's key, put behind the others by way of room that is long enough for every key.
+#[tactic(auto, using(keys::proofs::Bounding::key_few))]
+fn push_key(
+    table: &Table,
+    name: &[u8],
+    room: &mut [u32; 3002],
+    numbers: &mut Vec<u32>,
+) -> Result<(), AllocError>
+    requires { length name.now ≤ 1000 }
+    ensures { IfOk result (λ x. numbers.new.items ≡ numbers.old.items ++ key (rules_of table.now) name.now) }
+{
+    if let Ok(written) = table.write_key(name, room) {
+        numbers.extend_from_slice(&room[..written])?;
+    }
+    Ok(())
 }
