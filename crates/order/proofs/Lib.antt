@@ -3,3 +3,4 @@ pub mod Names
 pub mod Deciding
 pub mod Keeping
 pub mod Rows
+pub mod Fronts

@@ -2,7 +2,8 @@
 use Rattle.std.proofs.Common.{◌≡◌, ℕ, ◌<◌, true, List, [], ◌∷◌, ◌++◌, refl, sym, ap, ap₂, inl, inr, ⊎_elim, ◌∙◌, arith}
 use Rattle.std.specs.declared.cmp.Ordering.{Ordering}
 use Rattle.std.specs.declared.cmp.Ordering.TheVariants.{Less, Equal, Greater}
-use Rattle.std.specs.Ordering.{ordering_then}
+use Rattle.std.specs.Ordering.{is_lt, ordering_then}
+use Rattle.order.proofs.Fronts.{front_shared}
 use Rattle.std.proofs.lemmas.Bool.{cases_eq}
 use Rattle.std.proofs.lemmas.Bool.Decides.{nat_tests}
 use Rattle.keys.specs.Laws.{ZeroFree}
@@ -31,11 +32,6 @@ alike_are_same [] (y ∷ ys) e = grind arith
 alike_are_same (x ∷ xs) [] e = grind arith
 alike_are_same (x ∷ xs) (y ∷ ys) e = let ih = alike_are_same xs ys in grind (arith, nat_tests)
 
--- a front that two rows share does not decide
-front_shared : (f u v : List ℕ) → before (f ++ u) (f ++ v) ≡ before u v
-front_shared [] u v = refl
-front_shared (x ∷ f) u v = let ih = front_shared f u v in grind (arith, nat_tests)
-
 is_before : (xs ys : List ℕ) → before xs ys ≡ true → IsBefore xs ys
 is_before [] [] e = absurd (grind arith)
 is_before [] (y ∷ ys) e = ([], y, ys, refl, inl refl)
@@ -58,7 +54,7 @@ before_is : (xs ys : List ℕ) → IsBefore xs ys → before xs ys ≡ true
 before_is xs ys p =
     ⊎_elim
     (λ e. ap₂ before e p.3 ∙ front_ended p.0 p.1 p.2)
-    (λ q. ap₂ before q.2 p.3 ∙ (front_shared p.0 (q.0 ∷ q.1) (p.1 ∷ p.2) ∙ smaller q.0 p.1 q.1 p.2 q.3))
+    (λ q. ap₂ before q.2 p.3 ∙ (ap is_lt (front_shared p.0 (q.0 ∷ q.1) (p.1 ∷ p.2)) ∙ smaller q.0 p.1 q.1 p.2 q.3))
     p.4
 
 pub before_says : BeforeSays

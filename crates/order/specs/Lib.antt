@@ -4,3 +4,4 @@ pub mod Pieces
 pub mod Newer
 pub mod Changes
 pub mod Laws
+pub mod Fronts

@@ -7,6 +7,7 @@ ghost use Rattle.order.specs.Rows.{by_levels, row_order};
 ghost use Rattle.table.specs.Meaning.{rules_of};
 ghost use Rattle.table.specs.Rules.{Rules};
 
+use crate::front::shared;
 use keys::{Level, Row};
 use std::cmp::Ordering;
 use table::Table;
@@ -26,8 +27,8 @@ pub enum Standing {
 pub trait Collate {
     ghost rules: { Self → Rules };
 
-    // Which of two names is before the other. No key is made: their rows are read side by side, level after level, up to
-    // the first difference.
+    // Which of two names is before the other. No key is made: behind what both begin with their rows are read side by side,
+    // level after level, up to the first difference.
     fn compare(&self, a: &[u8], b: &[u8]) -> Ordering
         ensures keys { result ≡ name_order (rules self.now) a.now b.now }
         ensures levels { result ≡ by_levels (rows (rules self.now) a.now) (rows (rules self.now) b.now) };
@@ -40,15 +41,9 @@ pub trait Collate {
 impl Collate for Table<'_> {
     ghost rules = { rules_of };
 
-    #[tactic(auto, using(crate::proofs::Names::levels))]
     fn compare(&self, a: &[u8], b: &[u8]) -> Ordering {
-        for level in Level::ALL {
-            let order = compare_rows(self, level, a, b);
-            if order.is_ne() {
-                return order;
-            }
-        }
-        Ordering::Equal
+        let n = shared(self, a, b);
+        compare_levels(self, &a[n..], &b[n..])
     }
 
     fn standing(&self, name: &[u8], asked: &[u8]) -> Standing {
@@ -62,6 +57,19 @@ impl Collate for Table<'_> {
         }
         Standing::Begins
     }
+}
+
+// Which of two names is before the other, level by level.
+fn compare_levels(table: &Table, a: &[u8], b: &[u8]) -> Ordering
+    ensures { result ≡ by_levels (rows (rules_of table.now) a.now) (rows (rules_of table.now) b.now) }
+{
+    for level in Level::ALL {
+        let order = compare_rows(table, level, a, b);
+        if order.is_ne() {
+            return order;
+        }
+    }
+    Ordering::Equal
 }
 
 // Which of two names' rows of a level is before the other.

@@ -6,6 +6,7 @@
 #![tactic(auto)]
 
 mod collate;
+mod front;
 mod laws;
 mod newer;
 mod piece;
