@@ -1,9 +1,11 @@
 -- Answers as numbers.
-use Rattle.std.specs.Prelude.{◌≡◌, ℕ, List, length, Some, None, Option}
+use Rattle.std.specs.Prelude.{◌≡◌, ℕ, zero, suc, ◌+◌, ◌^◌, ◌<◌, cond, List, length, slice_index_or, Some, None, Option, ◌&&◌, ◌==◌, nat_lt}
 use Rattle.std.specs.Option.{option_or}
 use Rattle.capi.specs.declared.answer.KeyAnswer.{KeyAnswer}
+use Rattle.capi.specs.declared.answer.Part.{Part}
 use Rattle.capi.specs.declared.answer.Verdict.{Verdict}
-use Rattle.catalogue.specs.Lists.{Lists, fault_place, names_fault, places_fault}
+use Rattle.catalogue.specs.Finding.{FoundAt, may_ask}
+use Rattle.catalogue.specs.Lists.{Lists, fault_place, name_of, names_fault, places_fault}
 use Rattle.catalogue.specs.declared.fault.ListFault.{ListFault}
 use Rattle.catalogue.specs.declared.fault.ListFault.TheVariants.{NoStart, StartFalls, NameTooLong, EndsElsewhere, NoSuchName, OutOfOrder}
 use Rattle.keys.specs.Entry.{KeySays, done_of}
@@ -53,3 +55,25 @@ abbrev pub verdict_of : Option Refusal → Option ListFault → Verdict
 verdict_of (Some why) f = table_verdict why
 verdict_of None (Some why) = list_verdict why
 verdict_of None None = right
+
+-- questions whose starts are not as those of names are to be: 8, and the place at fault; another number of parts than of
+-- questions, or more questions than 32 bits number: 9, and how many questions
+abbrev pub asked_verdict : Option ListFault → (count parts : ℕ) → Verdict
+asked_verdict (Some why) n parts = record { what = 8; place = fault_place why }
+asked_verdict None n parts = cond (n == parts && nat_lt n (2 ^ 32)) right (record { what = 9; place = n })
+
+-- the table is looked at first, then the lists, then the questions
+abbrev pub each_verdict : Option Refusal → Option ListFault → Option ListFault → (count parts : ℕ) → Verdict
+each_verdict (Some why) f g n parts = table_verdict why
+each_verdict None (Some why) g n parts = list_verdict why
+each_verdict None None g n parts = asked_verdict g n parts
+
+-- where the names are that begin as a question asks
+abbrev pub Answers : Lists → (ask : List ℕ) → Part → Type 0
+Answers l ask p = FoundAt (may_ask ask) l ask p.place (p.place + p.length)
+
+-- where nothing is wrong each part is that of its question; else the parts are as they were
+abbrev pub PartsSay : (what : ℕ) → Lists → (asks ask_starts : List ℕ) → (parts after : List Part) → Type 0
+PartsSay zero l asks ask_starts parts after =
+    (length after ≡ length parts) × ((i : ℕ) (none : Part) → i < length after → Answers l (name_of asks ask_starts i) (slice_index_or after i none))
+PartsSay (suc k) l asks ask_starts parts after = after ≡ parts

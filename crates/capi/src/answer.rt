@@ -57,7 +57,7 @@ impl From<Range<usize>> for Part {
 #[derive(Clone, Copy, PartialEq, Eq, Debug)]
 pub struct Verdict {
     // 0 nothing, 1 the table; of lists 2 no start, 3 a start falls, 4 a name is too long, 5 the text ends elsewhere, 6 no such
-    // name, 7 out of order.
+    // name, 7 out of order; 8 the starts of questions, 9 how many parts there are.
     pub what: u32,
     // The place at fault, counted from 0; else 0.
     pub place: u64,
@@ -70,16 +70,23 @@ impl Verdict {
     {
         Verdict { what: 0, place: 0 }
     }
+
+    // This is wrong at that place.
+    pub(crate) fn of(what: u32, place: usize) -> Verdict
+        ensures { result ≡ record { what = what; place = place } }
+    {
+        Verdict {
+            what,
+            place: place as u64,
+        }
+    }
 }
 
 impl From<Refusal> for Verdict {
     ghost from_gives = { λ why r. r ≡ table_verdict why };
 
     fn from(why: Refusal) -> Verdict {
-        Verdict {
-            what: 1,
-            place: why.place() as u64,
-        }
+        Verdict::of(1, why.place())
     }
 }
 
@@ -95,9 +102,6 @@ impl From<ListFault> for Verdict {
             ListFault::NoSuchName(_) => 6,
             ListFault::OutOfOrder(_) => 7,
         };
-        Verdict {
-            what,
-            place: why.place() as u64,
-        }
+        Verdict::of(what, why.place())
     }
 }

@@ -5,18 +5,19 @@
 // plain numbers (answer).
 #![tactic(auto)]
 
-ghost use Rattle.std.specs.Prelude.{◌≡◌, ◌+◌, ◌≤◌, length, slice_range};
-ghost use Rattle.capi.specs.Answers.{ExactlyKeyed, fault_in, verdict_of};
+ghost use Rattle.std.specs.Prelude.{◌≡◌, ◌+◌, ◌-◌, ◌^◌, ◌<◌, length, slice_range};
+ghost use Rattle.capi.specs.Answers.{ExactlyKeyed, PartsSay, each_verdict, fault_in, verdict_of};
+ghost use Rattle.catalogue.specs.Checking.{lists_of};
 ghost use Rattle.catalogue.specs.Entry.{FindSays, all_right};
 ghost use Rattle.catalogue.specs.Finding.{FoundAt};
-ghost use Rattle.catalogue.specs.Lists.{lists};
+ghost use Rattle.catalogue.specs.Lists.{lists, names_fault};
 ghost use Rattle.table.specs.Refusals.{refusal_of};
 ghost use Rattle.table.specs.Rules.{rules_in};
 
 mod answer;
 
 pub use answer::{KeyAnswer, Part, Verdict};
-use catalogue::Catalogue;
+use catalogue::{Catalogue, Names};
 use std::ops::Range;
 use table::Table;
 
@@ -91,5 +92,55 @@ pub extern "C" fn nullahbowl_check(
     match Catalogue::check(&table, text, starts, places) {
         Ok(_) => Verdict::right(),
         Err(why) => Verdict::from(why),
+    }
+}
+
+// The same of many questions, so that table and lists are checked once: one behind the other, with starts, as names have.
+// Each part is where the names are that begin as its question asks.
+#[unsafe(no_mangle)]
+pub extern "C" fn nullahbowl_find_each(
+    letters: &[u16],
+    pairs: &[u16],
+    how_many: u64,
+    text: &[u8],
+    starts: &[u32],
+    places: &[u32],
+    asks: &[u8],
+    ask_starts: &[u32],
+    parts: &mut [Part],
+) -> Verdict
+    ensures verdict { result ≡ each_verdict (refusal_of letters.now pairs.now how_many) (fault_in (lists (rules_in letters.now pairs.now how_many) text.now starts.now places.now)) (names_fault asks.now ask_starts.now) (length ask_starts.now - 1) (length parts.old) }
+    ensures parts { PartsSay result.what (lists (rules_in letters.now pairs.now how_many) text.now starts.now places.now) asks.now ask_starts.now parts.old parts.new }
+{
+    let table = match Table::check(letters, pairs, how_many) {
+        Ok(table) => table,
+        Err(why) => return Verdict::from(why),
+    };
+    let catalogue = match Catalogue::check(&table, text, starts, places) {
+        Ok(catalogue) => catalogue,
+        Err(why) => return Verdict::from(why),
+    };
+    let questions = match Names::check(asks, ask_starts) {
+        Ok(questions) => questions,
+        Err(why) => return Verdict::of(8, why.place()),
+    };
+    let count = questions.count();
+    if count != parts.len() || count > u32::MAX as usize {
+        return Verdict::of(9, count);
+    }
+    answer_each(&catalogue, &questions, parts);
+    Verdict::right()
+}
+
+// Each part is that of its question.
+fn answer_each(catalogue: &Catalogue, questions: &Names, parts: &mut [Part])
+    requires as_many { length questions.now.starts.now - 1 ≡ length parts.old }
+    requires few { length parts.old < 2 ^ 32 }
+    ensures { PartsSay 0 (lists_of catalogue.now) questions.now.text.now questions.now.starts.now parts.old parts.new }
+{
+    for number in 0..parts.len() {
+        if let Some(ask) = questions.name(number as u32) {
+            parts[number] = Part::from(catalogue.range(ask));
+        }
     }
 }
