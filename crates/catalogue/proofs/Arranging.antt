@@ -22,7 +22,7 @@ use Rattle.catalogue.specs.Lists.{lists, name_at, name_of, no_such_name, out_of_
 use Rattle.catalogue.specs.declared.names.arrange.Keyed.{Keyed}
 
 -- keys decide; of names with the same key the number does
-abbrev keyed_order : Keyed → Keyed → Ordering
+abbrev pub keyed_order : Keyed → Keyed → Ordering
 keyed_order = row_then_number (λ (k : Keyed). k.key.now) (λ (k : Keyed). k.number)
 
 -- numbers from 0 on are all different

@@ -40,17 +40,17 @@ module _ (f : ℕ → ℕ) (n : ℕ) (up : (i j : ℕ) → i ≤ j → j < n →
   }
 
 -- how far along says where it stands
-before_is : (s : Standing) → along s ≤ 0 → s ≡ Before
+pub before_is : (s : Standing) → along s ≤ 0 → s ≡ Before
 before_is Before l = refl
 before_is Begins l = absurd (omega arith)
 before_is After l = absurd (omega arith)
 
-begins_is : (s : Standing) → 0 < along s → along s ≤ 1 → s ≡ Begins
+pub begins_is : (s : Standing) → 0 < along s → along s ≤ 1 → s ≡ Begins
 begins_is Before l m = absurd (omega arith)
 begins_is Begins l m = refl
 begins_is After l m = absurd (omega arith)
 
-after_is : (s : Standing) → 1 < along s → s ≡ After
+pub after_is : (s : Standing) → 1 < along s → s ≡ After
 after_is Before l = absurd (omega arith)
 after_is Begins l = absurd (omega arith)
 after_is After l = refl

@@ -1,14 +1,14 @@
 -- One name more, behind the others.
-use Rattle.std.proofs.Common.{◌≡◌, ℕ, zero, suc, ◌+◌, ◌-◌, ◌<◌, ◌≤◌, ⊎_elim, None, List, [], ◌∷◌, ◌++◌, length, slice_index_or, map, take, drop, false, refl, sym, ap, ap₂, ◌∙◌, arith}
+use Rattle.std.proofs.Common.{◌≡◌, ℕ, zero, suc, ◌+◌, ◌-◌, ◌<◌, ◌≤◌, ⊎_elim, None, List, [], ◌∷◌, ◌++◌, length, slice_index_or, map, take, drop, refl, sym, ap, ap₂, ◌∙◌, arith}
 use Rattle.std.proofs.lemmas.Bool.{cases_lt}
-use Rattle.std.proofs.lemmas.Bool.Decides.{nat_tests}
 use Rattle.std.proofs.lemmas.List.{get_or_append_left, length-append, drop-append-le, take-append-le, length-drop, take_all}
 use Rattle.std.proofs.lemmas.List.FromFn.{map-range_with_len_more}
 use Rattle.std.proofs.Math.Seq.{get_or-append_seam, drop-append_seam}
 use Rattle.std.specs.List.{range_with_len}
-use Rattle.table.proofs.Firsts.{none_at, none_below}
-use Rattle.catalogue.proofs.Listing.{begun, nothing_wrong, rises, sound, within}
-use Rattle.catalogue.specs.Lists.{falls, name_of, names_fault, too_long}
+use Rattle.catalogue.proofs.Listing.{within}
+use Rattle.catalogue.proofs.Plain.{are_names, sound_names}
+use Rattle.catalogue.specs.Laws.{AreNames}
+use Rattle.catalogue.specs.Lists.{name_of, names_fault}
 
 -- two maps that are the same below m
 same_map : (f g : ℕ → List ℕ) (m : ℕ) → ((i : ℕ) → i < m → f i ≡ g i) → map f (range_with_len 0 m) ≡ map g (range_with_len 0 m)
@@ -19,6 +19,9 @@ same_map f g (suc m) h =
     more f ∙ (ap₂ (λ xs x. xs ++ x ∷ []) (same_map f g m (λ i l. h i (omega arith))) (h m (omega arith)) ∙ sym (more g))
 
 module _ (text starts n : List ℕ) (e : names_fault text starts ≡ None) (l : length n ≤ 1000) where
+  a : AreNames text starts
+  a = are_names text starts e
+
   abbrev starts_more : List ℕ
   starts_more = starts ++ (length text + length n) ∷ []
 
@@ -33,7 +36,7 @@ module _ (text starts n : List ℕ) (e : names_fault text starts ≡ None) (l : 
 
   start_rises : (i : ℕ) → i + 1 < length starts_more → slice_index_or starts_more i 0 ≤ slice_index_or starts_more (i + 1) 0
   start_rises i h = ⊎_elim
-      (λ (b : i + 1 < length starts). let r = rises text starts e i b in let p = start_before i (omega arith) in let q = start_before (i + 1) b in omega arith)
+      (λ (b : i + 1 < length starts). let r = a.none_falls i b in let p = start_before i (omega arith) in let q = start_before (i + 1) b in omega arith)
       (λ (b : length starts ≤ i + 1).
       let m = as_many in
       let r = within text starts e i (omega arith) in
@@ -45,17 +48,15 @@ module _ (text starts n : List ℕ) (e : names_fault text starts ≡ None) (l : 
   letters_more : (i : ℕ) → i + 1 < length starts_more → slice_index_or starts_more (i + 1) 0 ≤ slice_index_or starts_more i 0 + 1000
   letters_more i h = ⊎_elim
       (λ (b : i + 1 < length starts).
-      let f = none_at (too_long starts) (length starts - 1) (sound text starts e).none_too_long i (omega arith) in
+      let f = a.none_too_long i b in
       let p = start_before i (omega arith) in
       let q = start_before (i + 1) b in
-      grind (arith, nat_tests))
+      omega arith)
       (λ (b : length starts ≤ i + 1).
       let m = as_many in
-      let g = begun text starts e in
+      let g = a.some in
       let k : i ≡ length starts - 1 = omega arith in
-      let s = (sound text starts e).ends in
-      let p = start_before i (omega arith) in
-      let p' : slice_index_or starts_more i 0 ≡ length text = p ∙ ap (λ k. slice_index_or starts k 0) k ∙ s in
+      let p = start_before i (omega arith) ∙ ap (λ k. slice_index_or starts k 0) k ∙ a.ends in
       let q = start_behind (i + 1) (omega arith) in
       omega arith)
       (cases_lt (i + 1) (length starts))
@@ -63,27 +64,20 @@ module _ (text starts n : List ℕ) (e : names_fault text starts ≡ None) (l : 
   pub sound_more : names_fault (text ++ n) (starts ++ (length text + length n) ∷ []) ≡ None
   sound_more =
       let m = as_many in
-      let g = begun text starts e in
-      nothing_wrong (text ++ n) starts_more (record {
+      let g = a.some in
+      sound_names (text ++ n) starts_more (record {
         some = omega arith;
-        none_falls = none_below (falls starts_more) (length starts_more) (λ k h. falls_not k h);
-        none_too_long = none_below (too_long starts_more) (length starts_more - 1) (λ k h. let r = letters_more k (omega arith) in grind (arith, nat_tests));
+        none_falls = start_rises;
+        none_too_long = letters_more;
         ends = start_behind (length starts_more - 1) (omega arith) ∙ sym (length-append text n);
       })
-    where
-      falls_not : (k : ℕ) → k < length starts_more → falls starts_more k ≡ false
-      falls_not zero h = refl
-      falls_not (suc k) h =
-          let f : suc k ≡ k + 1 = omega arith in
-          let r = start_rises k (omega arith) in
-          ap (falls starts_more) f ∙ grind (arith, nat_tests)
 
   -- its name and those before it
   name_before_it : (i : ℕ) → i + 1 < length starts → name_of (text ++ n) starts_more i ≡ name_of text starts i
   name_before_it i h =
       let p = start_before i (omega arith) in
       let q = start_before (i + 1) h in
-      let r = rises text starts e i h in
+      let r = a.none_falls i h in
       let w = within text starts e (i + 1) h in
       let a = slice_index_or starts i 0 in
       let b = slice_index_or starts (i + 1) 0 in
@@ -93,7 +87,7 @@ module _ (text starts n : List ℕ) (e : names_fault text starts ≡ None) (l : 
 
   name_itself : (i : ℕ) → i + 1 ≡ length starts → name_of (text ++ n) starts_more i ≡ n
   name_itself i h =
-      let s = (sound text starts e).ends in
+      let s = a.ends in
       let k : length starts - 1 ≡ i = omega arith in
       let p : slice_index_or starts_more i 0 ≡ length text = start_before i (omega arith) ∙ ap (λ j. slice_index_or starts j 0) (sym k) ∙ s in
       let q : slice_index_or starts_more (i + 1) 0 ≡ length text + length n = start_behind (i + 1) h in
@@ -102,7 +96,7 @@ module _ (text starts n : List ℕ) (e : names_fault text starts ≡ None) (l : 
 
   pub names_more : map (name_of (text ++ n) starts_more) (range_with_len 0 (length starts_more - 1)) ≡ map (name_of text starts) (range_with_len 0 (length starts - 1)) ++ n ∷ []
   names_more =
-      let g = begun text starts e in
+      let g = a.some in
       let m = as_many in
       let k : length starts_more - 1 ≡ length starts - 1 + 1 = omega arith in
       rw (k, map-range_with_len_more (name_of (text ++ n) starts_more) 0 (length starts - 1) (length starts - 1) (omega arith), same_map (name_of (text ++ n) starts_more) (name_of text starts) (length starts - 1) (λ i l. name_before_it i (omega arith)), name_itself (length starts - 1) (omega arith)) refl

@@ -6,5 +6,7 @@ pub mod Entering
 pub mod Keys
 pub mod Naming
 pub mod Arranging
+pub mod Plain
+pub mod Inserting
 pub mod Lawful
 pub mod Once

@@ -5,7 +5,9 @@ use Rattle.std.proofs.lemmas.Bool.Decides.{nat_tests}
 use Rattle.std.proofs.lemmas.List.{length-take}
 use Rattle.table.proofs.Firsts.{first_below, first_is, looked_through, none_at, none_more}
 use Rattle.table.specs.Refusals.{first_place}
-use Rattle.catalogue.specs.Lists.{Lists, falls, letters_of, name_at, name_of, names_fault, no_such_name, out_of_order, places_fault, too_long}
+use Rattle.table.specs.Rules.{Rules}
+use Rattle.catalogue.specs.Arranging.{Arranged}
+use Rattle.catalogue.specs.Lists.{Lists, falls, letters_of, lists, name_at, name_of, names_fault, no_such_name, out_of_order, places_fault, too_long}
 use Rattle.order.specs.Names.{name_order}
 use Rattle.std.specs.List.{AllWithin, HoldsAt}
 use Rattle.std.specs.Ordering.{is_lt}
@@ -122,6 +124,14 @@ none_sound text starts e f = rw (e, f)
 
 pub same_sound : (text starts text' starts' : List ℕ) → names_fault text starts ≡ None → text' ≡ text → starts' ≡ starts → names_fault text' starts' ≡ None
 same_sound text starts text' starts' s e f = rw (e, f) s
+
+-- the same list of the same names
+module _ (t u : Rules) (text starts text' starts' places : List ℕ) (d : u ≡ t) (e : text' ≡ text) (f : starts' ≡ starts) where
+  pub same_listed : places_fault (lists t text starts places) ≡ None → places_fault (lists u text' starts' places) ≡ None
+  same_listed s = rw (d, e, f) s
+
+  pub same_whole : (b : Bool) → ∥ (b ≡ true → Arranged (lists t text starts places)) ∥₁ → ∥ (b ≡ true → Arranged (lists u text' starts' places)) ∥₁
+  same_whole b s = rw (d, e, f) s
 
 -- what is not put in order needs no list of all
 pub not_whole : (b : Bool) (P : Type 0) → b ≡ false → ∥ (b ≡ true → P) ∥₁

@@ -46,31 +46,31 @@ pub record Empty (t : TableBuf) (b : CatalogueBuf) : Type 0 where
   pub starts : held_starts b ≡ 0 ∷ []
   pub arranged : b.arranged ≡ false
 
--- table and names are the same, and the list is let go of
-pub record LetGo (b c : CatalogueBuf) : Type 0 where
-  pub table : c.table ≡ b.table
+-- names and list are as they were
+pub record Kept (b c : CatalogueBuf) : Type 0 where
   pub names : SameNames b c
-  pub places : vec_items c.places ≡ []
-  pub arranged : c.arranged ≡ false
+  pub places : c.places ≡ b.places
+  pub arranged : c.arranged ≡ b.arranged
 
--- a name stands behind the others, and begins where they end; or there is no memory; the table is the same
+-- A name stands behind the others, and begins where they end; or there is no memory, and names and list are as they were. The
+-- table is the same.
 abbrev pub Appended : CatalogueBuf → (name : List ℕ) → Result Unit AllocError → CatalogueBuf → Type 0
 Appended b n (Ok x) c =
     (c.table ≡ b.table) × (held_text c ≡ held_text b ++ n) × (held_starts c ≡ held_starts b ++ (length (held_text b) + length n) ∷ [])
     × (held_names c ≡ held_names b ++ n ∷ []) × (c.arranged ≡ false)
-Appended b n (Err x) c = (c.table ≡ b.table) × SameNames b c
+Appended b n (Err x) c = (c.table ≡ b.table) × Kept b c
 
 -- too many names, or letters, to be counted with 32 bits
 abbrev pub TooMuch : (b : CatalogueBuf) → (name : List ℕ) → Type 0
 TooMuch b n = (2 ^ 32 ≤ length (held_text b) + length n) ⊎ (2 ^ 32 ≤ length (held_starts b))
 
--- A name that is taken stands behind the others, and begins where they end; what is turned away, or finds no memory, changes no
--- name. The table is the same.
+-- A name that is taken stands behind the others, and begins where they end. What is turned away changes nothing; where memory
+-- is wanting table, names and list are as they were.
 abbrev pub Pushed : CatalogueBuf → (name : List ℕ) → Result Unit (Failure NotTaken) → CatalogueBuf → Type 0
 Pushed b n (Ok x) c = (name_refusal n ≡ None) × (TooMuch b n → ⊥) × Appended b n (Ok tt) c
 Pushed b n (Err (Refused (Name why))) c = (name_refusal n ≡ Some why) × (c ≡ b)
 Pushed b n (Err (Refused Full)) c = (name_refusal n ≡ None) × TooMuch b n × (c ≡ b)
-Pushed b n (Err NoMemory) c = (name_refusal n ≡ None) × (TooMuch b n → ⊥) × (c.table ≡ b.table) × SameNames b c
+Pushed b n (Err NoMemory) c = (name_refusal n ≡ None) × (TooMuch b n → ⊥) × (c.table ≡ b.table) × Kept b c
 
 -- another table, and the same names
 pub record TableSet (b : CatalogueBuf) (t : TableBuf) (c : CatalogueBuf) : Type 0 where
@@ -85,16 +85,17 @@ pub record LetterSet (b : CatalogueBuf) (letter : ℕ) (w : Weights) (c : Catalo
   pub names : SameNames b c
   pub arranged : c.arranged ≡ false
 
--- a pair is added as the table says, and the names are the same; what is turned away changes nothing
+-- A pair is added as the table says, and the names are the same. What is turned away changes nothing; where memory is wanting
+-- names and list are as they were, and so is what the table says.
 abbrev pub PairAdded : CatalogueBuf → Pair → Result Unit (Failure Refusal) → CatalogueBuf → Type 0
 PairAdded b p (Ok x) c = Added b.table p (Ok tt) c.table × SameNames b c × (c.arranged ≡ false)
 PairAdded b p (Err (Refused why)) c = (pair_refusal (held_rules b) (length (buffer_pairs b.table)) p ≡ Some why) × (c ≡ b)
-PairAdded b p (Err NoMemory) c = Added b.table p (Err NoMemory) c.table × SameNames b c
+PairAdded b p (Err NoMemory) c = Added b.table p (Err NoMemory) c.table × Kept b c
 
--- the names are in order, or there is no memory; the names and the table are the same
+-- the names are in order, and names and table are the same; or there is no memory where they are not yet, and nothing changes
 abbrev pub PutInOrder : CatalogueBuf → Result Unit AllocError → CatalogueBuf → Type 0
 PutInOrder b (Ok x) c = (c.arranged ≡ true) × (c.table ≡ b.table) × SameNames b c
-PutInOrder b (Err x) c = (b.arranged ≡ false) × (c.table ≡ b.table) × SameNames b c
+PutInOrder b (Err x) c = (b.arranged ≡ false) × (c ≡ b)
 
 -- the catalogue of all names in order under the table (between the bars: that its list is so), where they have been put in order
 abbrev pub Lent : CatalogueBuf → Option Catalogue → Type 0

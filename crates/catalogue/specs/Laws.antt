@@ -1,29 +1,108 @@
 -- What is promised of lists, and of what is found in them.
-use Rattle.std.specs.Prelude.{◌≡◌, ℕ, List, [], None, filter, map}
+use Rattle.std.specs.Prelude.{◌≡◌, ℕ, ◌+◌, ◌-◌, ◌<◌, ◌≤◌, true, false, List, [], Some, None, filter, length, map, slice_index_or, drop}
+use Rattle.std.specs.List.{concat, range_with_len}
 use Rattle.catalogue.specs.Arranging.{Arranged}
 use Rattle.catalogue.specs.Finding.{PartFound, begins_so}
-use Rattle.catalogue.specs.Lists.{Lists, lists, name_of, places_fault}
+use Rattle.catalogue.specs.Lists.{Lists, lists, name_at, name_of, names_fault, places_fault}
+use Rattle.catalogue.specs.declared.fault.ListFault.{ListFault}
+use Rattle.catalogue.specs.declared.fault.ListFault.TheVariants.{NoStart, StartFalls, NameTooLong, EndsElsewhere, NoSuchName, OutOfOrder}
 use Rattle.keys.specs.Rows.{row}
 use Rattle.keys.specs.declared.level.Level.TheVariants.{Primary}
 use Rattle.order.specs.Laws.{InOrder}
+use Rattle.order.specs.Names.{name_before}
 use Rattle.table.specs.Rules.{Rules}
+
+-- ---- names
+
+-- of so many starts none is before the one in front of it
+abbrev pub NoneFalls : (starts : List ℕ) → (many : ℕ) → Type 0
+NoneFalls starts n = (k : ℕ) → k + 1 < n → slice_index_or starts k 0 ≤ slice_index_or starts (k + 1) 0
+
+-- from each of so many to the next there are at most 1,000 letters
+abbrev pub NoneTooLong : (starts : List ℕ) → (many : ℕ) → Type 0
+NoneTooLong starts n = (k : ℕ) → k + 1 < n → slice_index_or starts (k + 1) 0 ≤ slice_index_or starts k 0 + 1000
+
+-- A text and starts hold names: there is a start, none is before the one in front of it, from each to the next there are at
+-- most 1,000 letters, and the last is the end of the text.
+pub record AreNames (text starts : List ℕ) : Type 0 where
+  pub some : 0 < length starts
+  pub none_falls : NoneFalls starts (length starts)
+  pub none_too_long : NoneTooLong starts (length starts)
+  pub ends : slice_index_or starts (length starts - 1) 0 ≡ length text
+
+-- nothing is wrong with them exactly if they hold names
+abbrev pub ExactlyNames : Type 0
+ExactlyNames = (text starts : List ℕ) → (names_fault text starts ≡ None → AreNames text starts) × (AreNames text starts → names_fault text starts ≡ None)
+
+-- that this is wrong with them, and nothing that is looked for before it
+abbrev pub NamesWrong : (text starts : List ℕ) → ListFault → Type 0
+NamesWrong text starts NoStart = length starts ≡ 0
+NamesWrong text starts (StartFalls k) = (0 < k) × (k < length starts) × (slice_index_or starts k 0 < slice_index_or starts (k - 1) 0) × NoneFalls starts k
+NamesWrong text starts (NameTooLong i n) =
+    (i + 1 < length starts) × (slice_index_or starts (i + 1) 0 ≡ slice_index_or starts i 0 + n) × (1000 < n)
+    × NoneTooLong starts (i + 1) × NoneFalls starts (length starts)
+NamesWrong text starts (EndsElsewhere k) =
+    (k + 1 ≡ length starts) × (slice_index_or starts k 0 ≡ length text → ⊥) × NoneTooLong starts (length starts) × NoneFalls starts (length starts)
+NamesWrong text starts (NoSuchName k) = ⊥
+NamesWrong text starts (OutOfOrder k) = ⊥
+
+-- what is told is the first that is wrong
+abbrev pub FirstOfNames : Type 0
+FirstOfNames = (text starts : List ℕ) (why : ListFault) → names_fault text starts ≡ Some why → NamesWrong text starts why
+
+-- from the first start on the text is its names, one behind the other
+abbrev pub Tiled : Type 0
+Tiled = (text starts : List ℕ) → names_fault text starts ≡ None → concat (map (name_of text starts) (range_with_len 0 (length starts - 1))) ≡ drop (slice_index_or starts 0 0) text
+
+-- ---- lists
 
 -- the names of a list, in the order of their places
 abbrev pub names_of : Lists → List (List ℕ)
 names_of l = map (name_of l.text l.starts) l.places
 
--- in a list with which nothing is wrong, so that of any two neighbours the later is not before the earlier, of any two names
--- the later is not before the earlier
-abbrev pub Throughout : Type 0
-Throughout = (l : Lists) → places_fault l ≡ None → InOrder l.rules (names_of l)
+-- the numbers at the first so many places are names'
+abbrev pub AllKnown : Lists → (many : ℕ) → Type 0
+AllKnown l n = (k : ℕ) → k < n → slice_index_or l.places k 0 + 1 < length l.starts
+
+-- all numbers are names', and of any two names the later is not before the earlier
+pub record IsInOrder (l : Lists) : Type 0 where
+  pub known : AllKnown l (length l.places)
+  pub order : InOrder l.rules (names_of l)
+
+-- nothing is wrong with a list, of which only neighbours are compared, exactly if it is so
+abbrev pub ExactlyLists : Type 0
+ExactlyLists = (l : Lists) → (places_fault l ≡ None → IsInOrder l) × (IsInOrder l → places_fault l ≡ None)
+
+-- that this is wrong with it, and nothing that is looked for before it
+abbrev pub PlacesWrong : Lists → ListFault → Type 0
+PlacesWrong l (NoSuchName k) = (k < length l.places) × (length l.starts ≤ slice_index_or l.places k 0 + 1) × AllKnown l k
+PlacesWrong l (OutOfOrder k) =
+    (0 < k) × (k < length l.places) × (name_before l.rules (name_at l k) (name_at l (k - 1)) ≡ true)
+    × ((j : ℕ) → j + 1 < k → name_before l.rules (name_at l (j + 1)) (name_at l j) ≡ false) × AllKnown l (length l.places)
+PlacesWrong l NoStart = ⊥
+PlacesWrong l (StartFalls k) = ⊥
+PlacesWrong l (NameTooLong i n) = ⊥
+PlacesWrong l (EndsElsewhere k) = ⊥
+
+-- what is told is the first that is wrong
+abbrev pub FirstOfPlaces : Type 0
+FirstOfPlaces = (l : Lists) (why : ListFault) → places_fault l ≡ Some why → PlacesWrong l why
 
 -- just that part: what is found is what looking through the whole list gives
 abbrev pub JustThatPart : Type 0
 JustThatPart = (l : Lists) (ask part : List ℕ) → PartFound l ask part → part ≡ filter (begins_so l ask) l.places
 
+-- and there is one: in a list with which nothing is wrong the names that begin as asked stand together
+abbrev pub PartThere : Type 0
+PartThere = (l : Lists) (ask : List ℕ) → places_fault l ≡ None → PartFound l ask (filter (begins_so l ask) l.places)
+
 -- all names begin as asked where the first row asked for is empty
 abbrev pub AllBegin : Type 0
 AllBegin = (l : Lists) (ask : List ℕ) → row Primary l.rules ask ≡ [] → filter (begins_so l ask) l.places ≡ l.places
+
+-- names can always be put in order: under any rules there is a list of all of them
+abbrev pub SomeList : Type 0
+SomeList = (t : Rules) (text starts : List ℕ) → (places : List ℕ) × Arranged (lists t text starts places)
 
 -- putting names in order gives one list only: two that are so are the same
 abbrev pub OneList : Type 0
@@ -31,7 +110,13 @@ OneList = (t : Rules) (text starts one other : List ℕ) → Arranged (lists t t
 
 -- all of these
 pub record CatalogueLaws : Type 0 where
-  pub throughout : Throughout
+  pub exactly_names : ExactlyNames
+  pub first_of_names : FirstOfNames
+  pub tiled : Tiled
+  pub exactly_lists : ExactlyLists
+  pub first_of_places : FirstOfPlaces
   pub just_that_part : JustThatPart
+  pub part_there : PartThere
   pub all_begin : AllBegin
+  pub some_list : SomeList
   pub one_list : OneList

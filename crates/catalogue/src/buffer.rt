@@ -1,5 +1,5 @@
 // Names that are owned, and put in order when they are asked for.
-ghost use Rattle.std.specs.Prelude.{◌≡◌, ◌^◌, ◌≤◌, None, length, true};
+ghost use Rattle.std.specs.Prelude.{◌≡◌, ◌^◌, ◌≤◌, None, false, length, true, []};
 ghost use Rattle.catalogue.specs.Arranging.{Arranged};
 ghost use Rattle.catalogue.specs.Lists.{lists, names_fault, places_fault};
 ghost use Rattle.table.specs.Buffer.{buffer_rules};
@@ -22,5 +22,6 @@ pub struct CatalogueBuf {
     ghost sound: { names_fault text.items starts.items ≡ None },
     ghost few: { length starts.items ≤ 2 ^ 32 },
     ghost listed: { places_fault (lists (buffer_rules table) text.items starts.items places.items) ≡ None },
+    ghost none: { arranged ≡ false → places.items ≡ [] },
     ghost whole: { ∥ (arranged ≡ true → Arranged (lists (buffer_rules table) text.items starts.items places.items)) ∥₁ },
 }

@@ -12,9 +12,9 @@ use table::{Table, Weights};
 // The weights of a row that were met so far.
 #[derive(Clone, Copy)]
 struct ShortRow {
-    weights: [u16; 64],
+    weights: [u16; 32],
     count: usize,
-    ghost within: { count ≤ 64 },
+    ghost within: { count ≤ 32 },
 }
 
 impl ShortRow {
@@ -24,14 +24,14 @@ impl ShortRow {
         ensures { (weights_in result ≡ []) × (result.count ≡ 0) }
     {
         ShortRow {
-            weights: [0; 64],
+            weights: [0; 32],
             count: 0,
         }
     }
 
     // One weight more, unless it is 0.
     fn add(&mut self, weight: u16)
-        requires { self.old.count < 64 }
+        requires { self.old.count < 32 }
         ensures weights { weights_in self.new ≡ weights_in self.old ++ in_front weight [] }
         ensures count { self.new.count ≤ self.old.count + 1 }
     {
@@ -60,10 +60,10 @@ impl ShortRows {
     ghost use Rattle.keys.specs.Gathering.{key_of, row_of, weights_in};
 
     // How many letters a name may have whose rows are read so.
-    pub(crate) const LETTERS: usize = 64;
+    pub(crate) const LETTERS: usize = 32;
 
     pub(crate) fn of(table: &Table, name: &[u8]) -> ShortRows
-        requires { length name.now ≤ 64 }
+        requires { length name.now ≤ 32 }
         ensures { (l : Level) → weights_in (row_of l result) ≡ row l (rules_of table.now) name.now }
     {
         let mut rows = ShortRows {
@@ -80,7 +80,7 @@ impl ShortRows {
 
     // What one piece weighs.
     fn add(&mut self, weights: Weights)
-        requires { (self.old.primary.count < 64) × (self.old.secondary.count < 64) × (self.old.tertiary.count < 64) }
+        requires { (self.old.primary.count < 32) × (self.old.secondary.count < 32) × (self.old.tertiary.count < 32) }
         ensures weights { (l : Level) → weights_in (row_of l self.new) ≡ weights_in (row_of l self.old) ++ in_front (on l weights) [] }
         ensures count { (l : Level) → (row_of l self.new).count ≤ (row_of l self.old).count + 1 }
     {

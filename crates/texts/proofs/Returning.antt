@@ -15,7 +15,7 @@ use Rattle.texts.specs.Laws.{AreShort, MayStand, ReadsBack}
 use Rattle.texts.specs.Lines.{Saying, enters, finds, meaning_of, names, says, wants_key}
 use Rattle.texts.specs.Parts.{without_return}
 use Rattle.texts.specs.Written.{letter_text, saying_text, weights_text}
-use Rattle.texts.proofs.Cutting.{IsFree, free_append, free_places, parts_of}
+use Rattle.texts.proofs.Cutting.{IsFree, free_append, free_places, parts_free}
 use Rattle.texts.proofs.Forming.{digits_free, form_read}
 
 -- four large hexadecimal digits give a number of 16 bits again
@@ -118,4 +118,4 @@ pub read_again : (s : Saying) → MayStand s → (l : List ℕ) → l ≡ saying
 read_again s h l e = ap (λ t. meaning_of (without_return t)) e ∙ (ap meaning_of (kept (saying_text s) (no_return s h)) ∙ form_read s (saying_text s) (form_written s h))
 
 pub reads_back : ReadsBack
-reads_back s h others = (parts_of 10 (saying_text s) others (saying_text s ++ 10 ∷ others) (one_line s h) refl, read_again s h (saying_text s) refl)
+reads_back s h = (parts_free 10 (saying_text s) (one_line s h), read_again s h (saying_text s) refl)

@@ -1,5 +1,5 @@
 -- What is promised of texts and lines.
-use Rattle.std.specs.Prelude.{◌≡◌, ℕ, ◌-◌, ◌^◌, ◌<◌, List, ◌∷◌, ◌++◌, length, slice_index}
+use Rattle.std.specs.Prelude.{◌≡◌, ℕ, ◌-◌, ◌^◌, ◌<◌, List, [], ◌∷◌, ◌++◌, length, slice_index}
 use Rattle.std.specs.List.{All, join_with_byte}
 use Rattle.table.specs.declared.piece.Weights.{Weights}
 use Rattle.texts.specs.Forms.{HasForm}
@@ -15,6 +15,10 @@ IsWithout m t = (k : ℕ) → k < length t → slice_index t k ≡ m → ⊥
 -- a text has a part, if an empty one; its parts hold no mark; and joined, with the mark between each and the next, they are the text
 abbrev pub PartsJoin : Type 0
 PartsJoin = (m : ℕ) (t : List ℕ) → (0 < length (parts m t)) × All (IsWithout m) (parts m t) × (join_with_byte m (parts m t) ≡ t)
+
+-- the parts of two texts with the mark between are those of the one, and behind them those of the other
+abbrev pub PartsApart : Type 0
+PartsApart = (m : ℕ) (s t : List ℕ) → parts m (s ++ m ∷ t) ≡ parts m s ++ parts m t
 
 -- a line says just what it has the form of
 abbrev pub JustItsForm : Type 0
@@ -40,15 +44,14 @@ MayStand (finds n) = IsInLine n
 MayStand (wants_key n) = IsInLine n
 MayStand (names n) = IsInLine n
 
--- a command that is written as a line of a text is one line of it, and is read again as what it was
+-- a command that is written is one line, wherever it stands in a text, and is read again as what it was
 abbrev pub ReadsBack : Type 0
-ReadsBack =
-    (s : Saying) → MayStand s → (others : List ℕ) →
-    (parts 10 (saying_text s ++ 10 ∷ others) ≡ saying_text s ∷ parts 10 others) × (meaning_of (without_return (saying_text s)) ≡ says s)
+ReadsBack = (s : Saying) → MayStand s → (parts 10 (saying_text s) ≡ saying_text s ∷ []) × (meaning_of (without_return (saying_text s)) ≡ says s)
 
 -- all of these
 pub record TextLaws : Type 0 where
   pub parts_join : PartsJoin
+  pub parts_apart : PartsApart
   pub just_its_form : JustItsForm
   pub no_other : NoOther
   pub reads_back : ReadsBack

@@ -1,5 +1,5 @@
 // Filling a catalogue.
-ghost use Rattle.std.specs.Prelude.{◌≡◌, ◌+◌, ◌^◌, ◌<◌, ◌≤◌, IfOk, length};
+ghost use Rattle.std.specs.Prelude.{[], ◌≡◌, ◌+◌, ◌^◌, ◌<◌, ◌≤◌, IfOk, false, length};
 ghost use Rattle.table.specs.Buffer.{buffer_pairs, buffer_rules};
 ghost use Rattle.table.specs.Meaning.{pairs_of, rules_of};
 ghost use Rattle.table.specs.Rules.{with_letter};
@@ -11,7 +11,7 @@ use std::alloc::{AllocError, Global};
 use table::{AddError, Pair, Table, TableBuf, Weights};
 
 impl CatalogueBuf {
-    ghost use Rattle.catalogue.specs.Filling.{Appended, Empty, LetGo, LetterSet, PairAdded, Pushed, TableSet};
+    ghost use Rattle.catalogue.specs.Filling.{Appended, Empty, LetterSet, PairAdded, Pushed, TableSet};
 
     // As many names, and as many letters of all names together, as 32 bits can count.
     pub const MAX: usize = u32::MAX as usize;
@@ -32,7 +32,8 @@ impl CatalogueBuf {
         })
     }
 
-    // One name more, behind the others.
+    // One name more, behind the others. One that is turned away changes nothing; where memory is wanting names and list are as
+    // they were.
     pub fn push(&mut self, name: &[u8]) -> Result<(), PushError>
         ensures { Pushed self.old name.now result self.new }
     {
@@ -47,27 +48,18 @@ impl CatalogueBuf {
     }
 
     // The same, where the name may be taken: all names together end there then. Room for the start is asked for first, so that
-    // no name is half taken.
+    // no name is half taken; the list is let go of last, so that it is kept where memory is wanting.
     fn append(&mut self, name: &[u8], end: u32) -> Result<(), AllocError>
         requires long { length name.now ≤ 1000 }
         requires end { end ≡ length self.old.text.items + length name.now }
         requires few { length self.old.starts.items < 2 ^ 32 }
         ensures { Appended self.old name.now result self.new }
     {
-        self.let_go();
         self.starts.reserve(1)?;
         self.text.extend_from_slice(name)?;
         self.starts.push(end)?;
+        let_go(&mut self.places, &mut self.arranged);
         Ok(())
-    }
-
-    // The list is to be made anew.
-    #[tactic(auto, using(crate::proofs::Listing::none_listed, crate::proofs::Listing::not_whole))]
-    fn let_go(&mut self)
-        ensures { LetGo self.old self.new }
-    {
-        self.places.clear();
-        self.arranged = false;
     }
 
     // The table.
@@ -83,7 +75,7 @@ impl CatalogueBuf {
     pub fn set_table(&mut self, table: TableBuf)
         ensures { TableSet self.old table self.new }
     {
-        self.let_go();
+        let_go(&mut self.places, &mut self.arranged);
         self.table = table;
     }
 
@@ -92,17 +84,26 @@ impl CatalogueBuf {
     pub fn set_letter(&mut self, letter: u8, weights: Weights)
         ensures { LetterSet self.old letter weights self.new }
     {
-        self.let_go();
+        let_go(&mut self.places, &mut self.arranged);
         self.table.set_letter(letter, weights);
     }
 
-    // One pair more. One that is turned away changes nothing.
+    // One pair more. One that is turned away changes nothing; where memory is wanting the list is kept too.
     #[tactic(auto, using(crate::proofs::Listing::none_listed, crate::proofs::Listing::not_whole))]
     pub fn add_pair(&mut self, pair: Pair) -> Result<(), AddError>
         ensures { PairAdded self.old pair result self.new }
     {
         self.table.allows(pair)?;
-        self.let_go();
-        self.table.add_pair(pair)
+        self.table.add_pair(pair)?;
+        let_go(&mut self.places, &mut self.arranged);
+        Ok(())
     }
+}
+
+// The list is to be made anew.
+fn let_go(places: &mut Vec<u32>, arranged: &mut bool)
+    ensures { (places.new.items ≡ []) × (arranged.new ≡ false) }
+{
+    places.clear();
+    *arranged = false;
 }

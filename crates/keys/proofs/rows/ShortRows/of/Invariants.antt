@@ -10,8 +10,8 @@ use Rattle.keys.proofs.rows.ShortRows.of.Given as goal
 abbrev pub invariant-loop-walk : goal.invariant-loop-walk
 invariant-loop-walk l =
     ((v : Level) → row v (rules_of l.fn.table) l.fn.name ≡ weights_in (row_of v l.rows) ++ left_of v l.walk)
-    × (l.rows.primary.count + length l.walk.rest.now ≤ 64) × (l.rows.secondary.count + length l.walk.rest.now ≤ 64)
-    × (l.rows.tertiary.count + length l.walk.rest.now ≤ 64)
+    × (l.rows.primary.count + length l.walk.rest.now ≤ 32) × (l.rows.secondary.count + length l.walk.rest.now ≤ 32)
+    × (l.rows.tertiary.count + length l.walk.rest.now ≤ 32)
 
 abbrev pub decreases-loop-walk : goal.decreases-loop-walk
 decreases-loop-walk l = length l.walk.rest.now

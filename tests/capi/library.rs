@@ -1,0 +1,134 @@
+// The library's functions, over slices.
+
+#[repr(C)]
+#[derive(Clone, Copy, PartialEq, Eq, Debug)]
+pub struct KeyAnswer {
+    pub what: u32,
+    pub number: u64,
+}
+
+#[repr(C)]
+#[derive(Clone, Copy, PartialEq, Eq, Debug)]
+pub struct Part {
+    pub place: usize,
+    pub length: usize,
+}
+
+#[repr(C)]
+#[derive(Clone, Copy, PartialEq, Eq, Debug)]
+pub struct Verdict {
+    pub what: u32,
+    pub place: u64,
+}
+
+#[derive(Clone, Copy)]
+pub struct Table<'a> {
+    pub letters: &'a [u16],
+    pub pairs: &'a [u16],
+    pub how_many: u64,
+}
+
+#[derive(Clone, Copy)]
+pub struct Lists<'a> {
+    pub text: &'a [u8],
+    pub starts: &'a [u32],
+    pub places: &'a [u32],
+}
+
+extern "C" {
+    fn nullahbowl_key(
+        letters: *const u16,
+        letters_len: usize,
+        pairs: *const u16,
+        pairs_len: usize,
+        how_many: u64,
+        name: *const u8,
+        name_len: usize,
+        room: *mut u16,
+        room_len: usize,
+    ) -> KeyAnswer;
+    fn nullahbowl_find(
+        letters: *const u16,
+        letters_len: usize,
+        pairs: *const u16,
+        pairs_len: usize,
+        how_many: u64,
+        text: *const u8,
+        text_len: usize,
+        starts: *const u32,
+        starts_len: usize,
+        places: *const u32,
+        places_len: usize,
+        ask: *const u8,
+        ask_len: usize,
+    ) -> Part;
+    fn nullahbowl_check(
+        letters: *const u16,
+        letters_len: usize,
+        pairs: *const u16,
+        pairs_len: usize,
+        how_many: u64,
+        text: *const u8,
+        text_len: usize,
+        starts: *const u32,
+        starts_len: usize,
+        places: *const u32,
+        places_len: usize,
+    ) -> Verdict;
+}
+
+// No slice's pointer is null or unaligned, and what is lent to be written is lent to nobody else: that is all that is asked.
+
+pub fn key(table: Table, name: &[u8], room: &mut [u16]) -> KeyAnswer {
+    unsafe {
+        nullahbowl_key(
+            table.letters.as_ptr(),
+            table.letters.len(),
+            table.pairs.as_ptr(),
+            table.pairs.len(),
+            table.how_many,
+            name.as_ptr(),
+            name.len(),
+            room.as_mut_ptr(),
+            room.len(),
+        )
+    }
+}
+
+pub fn find(table: Table, lists: Lists, ask: &[u8]) -> Part {
+    unsafe {
+        nullahbowl_find(
+            table.letters.as_ptr(),
+            table.letters.len(),
+            table.pairs.as_ptr(),
+            table.pairs.len(),
+            table.how_many,
+            lists.text.as_ptr(),
+            lists.text.len(),
+            lists.starts.as_ptr(),
+            lists.starts.len(),
+            lists.places.as_ptr(),
+            lists.places.len(),
+            ask.as_ptr(),
+            ask.len(),
+        )
+    }
+}
+
+pub fn check(table: Table, lists: Lists) -> Verdict {
+    unsafe {
+        nullahbowl_check(
+            table.letters.as_ptr(),
+            table.letters.len(),
+            table.pairs.as_ptr(),
+            table.pairs.len(),
+            table.how_many,
+            lists.text.as_ptr(),
+            lists.text.len(),
+            lists.starts.as_ptr(),
+            lists.starts.len(),
+            lists.places.as_ptr(),
+            lists.places.len(),
+        )
+    }
+}
