@@ -1,13 +1,11 @@
 -- Rows gathered piece by piece.
 use Rattle.std.proofs.Common.{◌≡◌, ℕ, List, [], ◌∷◌, ◌++◌, ap, ap₂, sym, ◌∙◌, arith}
 use Rattle.std.proofs.lemmas.Bool.Decides.{nat_tests}
+use Rattle.std.proofs.lemmas.List.{append-nil}
 use Rattle.table.specs.Rules.{Rules}
-use Rattle.keys.specs.Gathering.{key_of, row_of, weights_in}
 use Rattle.keys.specs.Reading.{in_front}
 use Rattle.keys.specs.Rows.{key, row}
-use Rattle.keys.specs.declared.level.Level.{Level}
 use Rattle.keys.specs.declared.level.Level.TheVariants.{Primary, Secondary, Tertiary}
-use Rattle.keys.specs.declared.rows.ShortRows.{ShortRows}
 
 one_behind : (x : ℕ) (met left : List ℕ) → met ++ in_front x left ≡ (met ++ in_front x []) ++ left
 one_behind x [] left = grind (arith, nat_tests)
@@ -17,7 +15,15 @@ one_behind x (m ∷ met) left = let ih = one_behind x met left in grind (arith, 
 pub gathered : (x : ℕ) (all met left more rest : List ℕ) → all ≡ met ++ left → left ≡ in_front x rest → more ≡ met ++ in_front x [] → all ≡ more ++ rest
 gathered x all met left more rest a b e = a ∙ (ap (λ l. met ++ l) b ∙ (one_behind x met rest ∙ ap (λ m. m ++ rest) (sym e)))
 
--- the rows make the key
-pub made : (t : Rules) (n : List ℕ) (rs : ShortRows) → ((l : Level) → weights_in (row_of l rs) ≡ row l t n) → key_of rs ≡ key t n
+-- three rows make the key
+made : (t : Rules) (n r s q : List ℕ) → row Primary t n ≡ r → row Secondary t n ≡ s → row Tertiary t n ≡ q → r ++ (0 ∷ (s ++ (0 ∷ q))) ≡ key t n
 unfolding key
-made t n rs h = ap₂ (λ r q. r ++ (0 ∷ q)) (h Primary) (ap₂ (λ r q. r ++ (0 ∷ q)) (h Secondary) (h Tertiary))
+made t n r s q a b c = sym (ap₂ (λ x y. x ++ (0 ∷ y)) a (ap₂ (λ x y. x ++ (0 ∷ y)) b c))
+
+-- nothing is left
+all_met : (all met left : List ℕ) → all ≡ met ++ left → left ≡ [] → all ≡ met
+all_met all met left a b = a ∙ (ap (λ l. met ++ l) b ∙ append-nil met)
+
+pub made_at_end : (t : Rules) (n r s q x y z : List ℕ) → row Primary t n ≡ r ++ x → row Secondary t n ≡ s ++ y → row Tertiary t n ≡ q ++ z
+    → x ≡ [] → y ≡ [] → z ≡ [] → r ++ (0 ∷ (s ++ (0 ∷ q))) ≡ key t n
+made_at_end t n r s q x y z a b c d e f = made t n r s q (all_met _ r x a d) (all_met _ s y b e) (all_met _ q z c f)

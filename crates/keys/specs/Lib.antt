@@ -1,7 +1,6 @@
 pub mod Pieces
 pub mod Rows
 pub mod Reading
-pub mod Gathering
 pub mod Refusals
 pub mod Making
 pub mod Entry

@@ -5,7 +5,7 @@ ghost use Rattle.keys.specs.Rows.{key};
 ghost use Rattle.table.specs.Meaning.{rules_of};
 
 use crate::numbers::KeyNumbers;
-use crate::rows::ShortRows;
+use crate::rows::{SHORT, fill_short};
 use table::Table;
 
 // A number of a key as it lies in room.
@@ -48,14 +48,13 @@ pub(crate) fn put<T: Cell>(weights: &[u16], from: usize, room: &mut [T]) -> usiz
 }
 
 // The key of a name, written into the front of `room`; how many numbers it has.
-#[tactic(auto, using(crate::proofs::Gathering::made))]
 pub(crate) fn fill<T: Cell>(table: &Table, name: &[u8], room: &mut [T]) -> usize
     requires { length (key (rules_of table.now) name.now) ≤ length room.old }
     ensures count { result ≡ length (key (rules_of table.now) name.now) }
     ensures room { room.new ≡ map T.cell (key (rules_of table.now) name.now) ++ drop result room.old }
 {
-    if name.len() <= ShortRows::LETTERS {
-        return ShortRows::of(table, name).write(room);
+    if name.len() <= SHORT {
+        return fill_short(table, name, room);
     }
     fill_with(KeyNumbers::new(table, name), room)
 }

@@ -1,107 +1,63 @@
-// All rows of a short name, read in one go.
-ghost use Rattle.std.specs.Prelude.{◌≡◌, ◌+◌, ◌<◌, ◌≤◌, [], ◌++◌, drop, length, map};
+// The key of a short name, all of whose rows are read in one go.
+ghost use Rattle.std.specs.Prelude.{◌≡◌, ◌+◌, ◌<◌, ◌≤◌, [], ◌∷◌, ◌++◌, drop, length, map, take};
 ghost use Rattle.keys.specs.Reading.{in_front};
-ghost use Rattle.keys.specs.Rows.{on, row};
-ghost use Rattle.keys.specs.declared.level.Level.{Level};
+ghost use Rattle.keys.specs.Rows.{joined, key};
 ghost use Rattle.table.specs.Meaning.{rules_of};
 
 use crate::fill::{Cell, put};
 use crate::walk::Walk;
-use table::{Table, Weights};
+use table::Table;
 
-// The weights of a row that were met so far.
-#[derive(Clone, Copy)]
-struct ShortRow {
-    weights: [u16; 32],
-    count: usize,
-    ghost within: { count ≤ 32 },
+// How many letters a short name has at the most.
+pub(crate) const SHORT: usize = 32;
+
+// The key of a short name, written into the front of `room`; how many numbers it has. Each piece is looked at once, and not once
+// for each row. The counts stand beside the rows, and not in a struct with them, so that they are held in registers.
+pub(crate) fn fill_short<T: Cell>(table: &Table, name: &[u8], room: &mut [T]) -> usize
+    requires short { length name.now ≤ 32 }
+    requires fits { length (key (rules_of table.now) name.now) ≤ length room.old }
+    ensures count { result ≡ length (key (rules_of table.now) name.now) }
+    ensures room { room.new ≡ map T.cell (key (rules_of table.now) name.now) ++ drop result room.old }
+{
+    let mut primary = [0; SHORT];
+    let mut secondary = [0; SHORT];
+    let mut tertiary = [0; SHORT];
+    let mut first = 0;
+    let mut second = 0;
+    let mut third = 0;
+    let mut walk = Walk::new(table, name);
+    while walk.letter_step() {
+        first = add(&mut primary, first, walk.weights.primary);
+        second = add(&mut secondary, second, walk.weights.secondary);
+        third = add(&mut tertiary, third, walk.weights.tertiary);
+    }
+    write_rows(
+        &primary[..first],
+        &secondary[..second],
+        &tertiary[..third],
+        room,
+    )
 }
 
-impl ShortRow {
-    ghost use Rattle.keys.specs.Gathering.{weights_in};
-
-    fn new() -> ShortRow
-        ensures { (weights_in result ≡ []) × (result.count ≡ 0) }
-    {
-        ShortRow {
-            weights: [0; 32],
-            count: 0,
-        }
-    }
-
-    // One weight more, unless it is 0.
-    fn add(&mut self, weight: u16)
-        requires { self.old.count < 32 }
-        ensures weights { weights_in self.new ≡ weights_in self.old ++ in_front weight [] }
-        ensures count { self.new.count ≤ self.old.count + 1 }
-    {
-        self.weights[self.count] = weight;
-        if weight != 0 {
-            self.count += 1;
-        }
-    }
-
-    fn as_slice(&self) -> &[u16]
-        ensures { result.now ≡ weights_in self.now }
-    {
-        &self.weights[..self.count]
-    }
+// One weight more of a row of which so many were met, unless it is 0; how many there are then.
+fn add(row: &mut [u16; 32], count: usize, weight: u16) -> usize
+    requires { count < 32 }
+    ensures row { take result row.new ≡ take count row.old ++ in_front weight [] }
+    ensures count { result ≤ count + 1 }
+{
+    row[count] = weight;
+    if weight != 0 { count + 1 } else { count }
 }
 
-// The three rows of a name.
-#[derive(Drop)]
-pub(crate) struct ShortRows {
-    primary: ShortRow,
-    secondary: ShortRow,
-    tertiary: ShortRow,
-}
-
-impl ShortRows {
-    ghost use Rattle.keys.specs.Gathering.{key_of, row_of, weights_in};
-
-    // How many letters a name may have whose rows are read so.
-    pub(crate) const LETTERS: usize = 32;
-
-    pub(crate) fn of(table: &Table, name: &[u8]) -> ShortRows
-        requires { length name.now ≤ 32 }
-        ensures { (l : Level) → weights_in (row_of l result) ≡ row l (rules_of table.now) name.now }
-    {
-        let mut rows = ShortRows {
-            primary: ShortRow::new(),
-            secondary: ShortRow::new(),
-            tertiary: ShortRow::new(),
-        };
-        let mut walk = Walk::new(table, name);
-        while walk.letter_step() {
-            rows.add(walk.weights);
-        }
-        rows
-    }
-
-    // What one piece weighs.
-    fn add(&mut self, weights: Weights)
-        requires { (self.old.primary.count < 32) × (self.old.secondary.count < 32) × (self.old.tertiary.count < 32) }
-        ensures weights { (l : Level) → weights_in (row_of l self.new) ≡ weights_in (row_of l self.old) ++ in_front (on l weights) [] }
-        ensures count { (l : Level) → (row_of l self.new).count ≤ (row_of l self.old).count + 1 }
-    {
-        self.primary.add(weights.primary);
-        self.secondary.add(weights.secondary);
-        self.tertiary.add(weights.tertiary);
-    }
-
-    // The key that they make, written into the front of `room`; how many numbers it has.
-    pub(crate) fn write<T: Cell>(&self, room: &mut [T]) -> usize
-        requires { length (key_of self.now) ≤ length room.old }
-        ensures count { result ≡ length (key_of self.now) }
-        ensures room { room.new ≡ map T.cell (key_of self.now) ++ drop result room.old }
-    {
-        let first = self.primary.as_slice();
-        let second = self.secondary.as_slice();
-        let third = self.tertiary.as_slice();
-        let mut n = put(first, 0, room);
-        n = put(&[0], n, room);
-        n = put(second, n, room);
-        n = put(&[0], n, room);
-        put(third, n, room)
-    }
+// Rows written as a key into the front of `room`, a 0 between; how many numbers it has.
+fn write_rows<T: Cell>(first: &[u16], second: &[u16], third: &[u16], room: &mut [T]) -> usize
+    requires { length (joined (first.now ∷ (second.now ∷ (third.now ∷ [])))) ≤ length room.old }
+    ensures count { result ≡ length (joined (first.now ∷ (second.now ∷ (third.now ∷ [])))) }
+    ensures room { room.new ≡ map T.cell (joined (first.now ∷ (second.now ∷ (third.now ∷ [])))) ++ drop result room.old }
+{
+    let mut n = put(first, 0, room);
+    n = put(&[0], n, room);
+    n = put(second, n, room);
+    n = put(&[0], n, room);
+    put(third, n, room)
 }

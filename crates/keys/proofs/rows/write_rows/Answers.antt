@@ -1,15 +1,15 @@
-use Rattle.std.proofs.Common.{◌++◌, [], ◌∷◌, drop, length, map, sym, ap, ap₂, ◌+◌, ◌∙◌, refl}
+use Rattle.std.proofs.Common.{◌++◌, [], ◌∷◌, drop, map, sym, ap, ◌+◌, ◌∙◌, refl}
 use Rattle.std.proofs.lemmas.List.{length-map}
 use Rattle.keys.proofs.Filling.{cells, grown}
-use Rattle.keys.proofs.rows.ShortRows.write.Goals as goal
+use Rattle.keys.proofs.rows.write_rows.Goals as goal
 
 pub returns-clause-room : goal.returns-clause-room
 returns-clause-room g c =
     let cell = g.T.Cell.cell in
     let room = c.args.room.now in
-    let r = c.as_slice-first.result.now in
-    let s = c.as_slice-second.result.now in
-    let t = c.as_slice-third.result.now in
+    let r = c.args.first.now in
+    let s = c.args.second.now in
+    let t = c.args.third.now in
     let zero = cell 0 ∷ [] in
     let one = grown [] (map cell r) 0 _ room room _ (refl, refl) (c.put-n.ensures.behind ∙ ap (λ k. 0 + k) (sym (length-map r cell))) c.put-n.ensures.room in
     let two = grown (map cell r) zero _ _ room _ _ one c.put-n-2.ensures.behind c.put-n-2.ensures.room in
@@ -18,5 +18,4 @@ returns-clause-room g c =
     let four = grown ((map cell r ++ zero) ++ map cell s) zero _ _ room _ _ three c.put-n-4.ensures.behind c.put-n-4.ensures.room in
     let five = grown (((map cell r ++ zero) ++ map cell s) ++ zero) (map cell t) _ _ room _ _ four
         (c.put.ensures.behind ∙ ap (λ k. c.put-n-4.result + k) (sym (length-map t cell))) c.put.ensures.room in
-    let w = ap₂ (λ x y. x ++ (0 ∷ y)) c.as_slice-first.ensures (ap₂ (λ x y. x ++ (0 ∷ y)) c.as_slice-second.ensures c.as_slice-third.ensures) in
-    five.1 ∙ ap (λ x. x ++ drop c.put.result room) (cells cell r s t ∙ ap (map cell) w)
+    five.1 ∙ ap (λ x. x ++ drop c.put.result room) (cells cell r s t)
