@@ -30,7 +30,7 @@ pub row_free : (l : Level) (t : Rules) (n : List ℕ) → ZeroFree (row l t n)
 unfolding row
 row_free l t n = zeros_gone (map (weight l t) (pieces t.joins n))
 
-row_few : (l : Level) (t : Rules) (n : List ℕ) → length (row l t n) ≤ length n
+pub row_few : (l : Level) (t : Rules) (n : List ℕ) → length (row l t n) ≤ length n
 unfolding row
 row_few l t n =
     let p = pieces_few t.joins n in

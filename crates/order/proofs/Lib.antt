@@ -4,3 +4,4 @@ pub mod Deciding
 pub mod Keeping
 pub mod Rows
 pub mod Fronts
+pub mod Asking

@@ -5,12 +5,14 @@
 // and `row_laws` and `order_laws` carry what is promised of rows and of names (laws).
 #![tactic(auto)]
 
+mod asked;
 mod collate;
 mod front;
 mod laws;
 mod newer;
 mod piece;
 
+pub use asked::Asked;
 pub use collate::{Collate, Standing};
 pub use laws::{order_laws, row_laws};
 pub use newer::{Change, keeps_order};

@@ -7,7 +7,7 @@ ghost use Rattle.order.specs.Names.{along};
 
 use crate::view::Catalogue;
 use keys::NameRefusal;
-use order::{Collate, Standing};
+use order::{Asked, Standing};
 use std::ops::Range;
 
 impl<'a> Catalogue<'a> {
@@ -45,16 +45,17 @@ impl<'a> Catalogue<'a> {
         if NameRefusal::of(ask).is_some() {
             return 0..0;
         }
+        let asked = Asked::new(&self.table, ask);
         let mut from = 0;
         let mut to = self.places.len();
         while from < to {
             let middle = from + (to - from) / 2;
-            match self.standing(middle, ask) {
+            match self.standing(middle, &asked) {
                 Standing::Before => from = middle + 1,
                 Standing::After => to = middle,
                 Standing::Begins => {
-                    let first = self.first_behind(Standing::Before, from, middle, ask);
-                    let behind = self.first_behind(Standing::Begins, middle + 1, to, ask);
+                    let first = self.first_behind(Standing::Before, from, middle, &asked);
+                    let behind = self.first_behind(Standing::Begins, middle + 1, to, &asked);
                     return first..behind;
                 }
             }
@@ -63,15 +64,16 @@ impl<'a> Catalogue<'a> {
     }
 
     // The first place from one on and before another whose name stands further along than so; else the other.
-    fn first_behind(&self, so: Standing, from: usize, to: usize, ask: &[u8]) -> usize
-        requires { (from ≤ to) × (to ≤ length self.now.places.now) }
-        ensures { Cuts (along_at (lists_of self.now) ask.now) (along so) from to result }
+    fn first_behind(&self, so: Standing, from: usize, to: usize, asked: &Asked) -> usize
+        requires within { (from ≤ to) × (to ≤ length self.now.places.now) }
+        requires table { asked.now.table.now ≡ self.now.table }
+        ensures { Cuts (along_at (lists_of self.now) asked.now.ask.now) (along so) from to result }
     {
         let mut low = from;
         let mut high = to;
         while low < high {
             let middle = low + (high - low) / 2;
-            if self.standing(middle, ask) <= so {
+            if self.standing(middle, asked) <= so {
                 low = middle + 1;
             } else {
                 high = middle;
@@ -81,10 +83,11 @@ impl<'a> Catalogue<'a> {
     }
 
     // Where the name at a place stands to what is asked.
-    fn standing(&self, place: usize, ask: &[u8]) -> Standing
-        requires { place < length self.now.places.now }
-        ensures { result ≡ standing_at (lists_of self.now) ask.now place }
+    fn standing(&self, place: usize, asked: &Asked) -> Standing
+        requires within { place < length self.now.places.now }
+        requires table { asked.now.table.now ≡ self.now.table }
+        ensures { result ≡ standing_at (lists_of self.now) asked.now.ask.now place }
     {
-        self.table.standing(self.at(place), ask)
+        asked.standing(self.at(place))
     }
 }

@@ -1,4 +1,4 @@
-use Rattle.std.proofs.Common.{rules, length, ◌+◌, ◌-◌, ◌/◌, arith}
+use Rattle.std.proofs.Common.{rules, ap, length, ◌+◌, ◌-◌, ◌/◌, arith}
 use Rattle.catalogue.proofs.Cutting.{parted, past, short}
 use Rattle.catalogue.proofs.Order.{rising}
 use Rattle.catalogue.specs.Checking.{lists_of}
@@ -20,5 +20,6 @@ pub returns-in-Begins : goal.returns-in-Begins
 returns-in-Begins c =
     let s = c.args.self.now in
     let up = rising (lists_of s) s.listed c.args.ask.now in
-    let f = parted (lists_of s) c.args.ask.now up _ _ (c.loop-from.from + (c.loop-from.to - c.loop-from.from) / 2) _ _ c.loop-from.invariant (omega arith) (omega arith) (search rules) c.first_behind-first.ensures c.first_behind-behind.ensures in
+    let q = ap (λ b. b.now) c.new-asked.ensures.1 in
+    let f = parted (lists_of s) c.args.ask.now up _ _ (c.loop-from.from + (c.loop-from.to - c.loop-from.from) / 2) _ _ c.loop-from.invariant (omega arith) (omega arith) (search rules) (rw q at (c.first_behind-first.ensures)) (rw q at (c.first_behind-behind.ensures)) in
     search rules
