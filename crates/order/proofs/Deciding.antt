@@ -1,5 +1,5 @@
 -- Deciding whether a newer table keeps old names in their order.
-use Rattle.std.proofs.Common.{◌≡◌, ℕ, ◌+◌, ◌-◌, ◌<◌, ◌≤◌, Bool, true, false, ◌&&◌, ◌||◌, ◌==◌, List, [], ◌∷◌, length, Some, None, Ok, Err, Option, sym, refl, ap, ap₂, ◌∙◌, subst, ◌⊎◌, inl, inr, ⊎_elim, arith}
+use Rattle.std.proofs.Common.{◌≡◌, ℕ, zero, suc, slice_index_or, ◌+◌, ◌-◌, ◌<◌, ◌≤◌, Bool, true, false, ◌&&◌, ◌||◌, ◌==◌, List, [], ◌∷◌, length, Some, None, Ok, Err, Option, sym, refl, ap, ap₂, ◌∙◌, subst, ◌⊎◌, inl, inr, ⊎_elim, arith}
 use Rattle.std.specs.Cmp.{both_ways}
 use Rattle.std.specs.List.{list_all, slice_get}
 use Rattle.table.specs.declared.piece.Pair as table_pair
@@ -8,14 +8,15 @@ use Rattle.std.proofs.lemmas.Bool.{cases_lt}
 use Rattle.std.proofs.lemmas.Bool.Decides.{nat_tests}
 use Rattle.std.proofs.lemmas.Option.{cond_some, none-some, same_Some, slice_get_cases}
 use Rattle.keys.specs.declared.level.Level.{Level}
+use Rattle.keys.specs.declared.level.Level.TheVariants.{Primary, Secondary, Tertiary}
 use Rattle.keys.specs.Rows.{on, weight}
 use Rattle.table.specs.Meaning.{pairs_of, rules_of}
 use Rattle.table.specs.Rules.{Rules}
 use Rattle.table.specs.declared.view.Table.{Table}
 use Rattle.table.proofs.Lawful.{listed, listed_joins}
-use Rattle.order.specs.Changes.{Changed, Decided, InBoth, SameOrder, SameZero, Tested, WeighedIn}
+use Rattle.order.specs.Changes.{Changed, Decided, FirstOf, InBoth, SameOrder, SameZero, Tested, WeighedIn, level_place}
 use Rattle.order.proofs.Keeping.{newer_tables}
-use Rattle.order.specs.Newer.{Keeps, is_piece, old_piece}
+use Rattle.order.specs.Newer.{Keeps, SameRuns, is_piece, old_piece}
 use Rattle.order.specs.Pieces.{NextPiece, NoneBetween, letters_of, old_at, old_in, places, run_at}
 use Rattle.order.specs.declared.newer.Change.{Change}
 use Rattle.order.specs.declared.newer.Change.TheVariants.{Joins, Counts, Order}
@@ -93,6 +94,18 @@ module _ (b : Table) (m : List Bool) (P : List ℕ → Type 0) (s : OldPieces) w
   pub met : (p : Piece) (t : OldPieces) → NextPiece s (Some p) t → Walked b m P s → old_piece (old_in m) (rules_of b) (letters_of p) ≡ true
   met p t n w = ap₂ (λ m b. old_piece (old_in m) (rules_of b) (letters_of p)) (sym w.1) (sym w.0) ∙ sound s n.2.0 (letters_of p) n.2.2 n.2.4
 
+-- what holds of the levels tried so far holds of those in front of the next
+pub levels_before : (P : Level → Type 0) (i : ℕ) → i < 3 → ((k : ℕ) → k < i → P (slice_index_or (Primary ∷ (Secondary ∷ (Tertiary ∷ []))) k Primary))
+    → (m : Level) → level_place m < level_place (slice_index_or (Primary ∷ (Secondary ∷ (Tertiary ∷ []))) i Primary) → P m
+levels_before P zero l h m k = absurd (omega arith)
+levels_before P (suc zero) l h Primary k = h 0 (omega arith)
+levels_before P (suc zero) l h Secondary k = absurd (omega arith)
+levels_before P (suc zero) l h Tertiary k = absurd (omega arith)
+levels_before P (suc (suc zero)) l h Primary k = h 0 (omega arith)
+levels_before P (suc (suc zero)) l h Secondary k = h 1 (omega arith)
+levels_before P (suc (suc zero)) l h Tertiary k = absurd (omega arith)
+levels_before P (suc (suc (suc i))) l h m k = absurd (omega arith)
+
 module _ (marks : List Bool) (t u : Rules) where
   -- a piece stands to another in both tables as it was weighed
   abbrev pub StandsTo : Weighed → List ℕ → Type 0
@@ -120,8 +133,8 @@ module _ (marks : List Bool) (t u : Rules) where
   refuted (Counts p l) h k = h.1 ((k.levels l).zeros (letters_of p) h.0.0)
   refuted (Order p q l) h k = h.2 ((k.levels l).order (letters_of p) (letters_of q) h.0.0 h.1.0)
 
-  told : (c : Change) → Changed (old_in marks) t u c → Decided (old_in marks) t u (Err c)
-  told c h = (h, refuted c h)
+  told : (c : Change) → Changed (old_in marks) t u c → FirstOf (old_in marks) t u c → Decided (old_in marks) t u (Err c)
+  told c h f = (h, f, refuted c h)
 
   all_old : (run : List ℕ) (b : Rules) → old_piece (old_in marks) b run ≡ true → list_all (old_in marks) run ≡ true
   all_old run b o = grind arith
@@ -140,7 +153,7 @@ module _ (marks : List Bool) (t u : Rules) where
       → WeighedIn t u p (Err c) → Decided (old_in marks) t u (Err c)
   only_one p c o f g =
       let run = letters_of p in
-      subst (λ c. Decided (old_in marks) t u (Err c)) (sym g.0) (told (Joins p) (o, parted (length run == 1) (t.joins run) (u.joins run) g.1 f))
+      subst (λ c. Decided (old_in marks) t u (Err c)) (sym g.0) (told (Joins p) (o, parted (length run == 1) (t.joins run) (u.joins run) g.1 f) tt)
 
   pub in_older_only : (p : Piece) (c : Change) → old_piece (old_in marks) t (letters_of p) ≡ true → WeighedIn t u p (Err c) → Decided (old_in marks) t u (Err c)
   in_older_only p c o g = only_one p c (all_old (letters_of p) t o) (inl (a_piece (letters_of p) t o)) g
@@ -148,15 +161,32 @@ module _ (marks : List Bool) (t u : Rules) where
   pub in_newer_only : (p : Piece) (c : Change) → old_piece (old_in marks) u (letters_of p) ≡ true → WeighedIn t u p (Err c) → Decided (old_in marks) t u (Err c)
   in_newer_only p c o g = only_one p c (all_old (letters_of p) u o) (inr (a_piece (letters_of p) u o)) g
 
-  pub zero_changed : (p : Piece) (w : Weighed) (c : Change) → old_piece (old_in marks) t (letters_of p) ≡ true → WeighedIn t u p (Ok w) → Tested (SameZero w) (Counts w.piece) (Err c)
-      → Decided (old_in marks) t u (Err c)
-  zero_changed p w c o g (l, is, not) =
-      subst (λ c. Decided (old_in marks) t u (Err c)) (sym (is ∙ ap (λ x. Counts x l) g.0))
-      (told (Counts p l) (both p o w g, λ f. not (ap (λ x. on l x == 0) (sym (newer_is p w g).1) ∙ (f ∙ ap (λ x. on l x == 0) (older_is p w g).1))))
+  -- no old letters came to be one
+  abbrev pub NoneJoined : Type 0
+  NoneJoined = (run : List ℕ) → list_all (old_in marks) run ≡ true → u.joins run ≡ true → t.joins run ≡ true
 
-  pub order_changed : (p q : Piece) (v w : Weighed) (c : Change) → old_piece (old_in marks) t (letters_of p) ≡ true → old_piece (old_in marks) t (letters_of q) ≡ true
+  -- a piece weighs 0 where it did, as it was weighed
+  zero_as : (p : Piece) (w : Weighed) → WeighedIn t u p (Ok w) → (l : Level) → SameZero w l → (weight l u (letters_of p) == 0) ≡ (weight l t (letters_of p) == 0)
+  zero_as p w g l z = ap (λ x. on l x == 0) (newer_is p w g).1 ∙ (z ∙ ap (λ x. on l x == 0) (sym (older_is p w g).1))
+
+  pub zero_changed : (p : Piece) (w : Weighed) (c : Change) → NoneJoined → old_piece (old_in marks) t (letters_of p) ≡ true → WeighedIn t u p (Ok w)
+      → Tested (SameZero w) (Counts w.piece) (Err c) → Decided (old_in marks) t u (Err c)
+  zero_changed p w c j o g (l, is, not, first) =
+      subst (λ c. Decided (old_in marks) t u (Err c)) (sym (is ∙ ap (λ x. Counts x l) g.0))
+      (told (Counts p l) (both p o w g, λ f. not (ap (λ x. on l x == 0) (sym (newer_is p w g).1) ∙ (f ∙ ap (λ x. on l x == 0) (older_is p w g).1)))
+      (j, λ m k. zero_as p w g m (first m k)))
+
+  -- two pieces stand as before, as they were weighed
+  order_as : (p q : Piece) (v w : Weighed) → WeighedIn t u p (Ok v) → WeighedIn t u q (Ok w) → (l : Level) → SameOrder v w l
+      → nat_cmp (weight l u (letters_of p)) (weight l u (letters_of q)) ≡ nat_cmp (weight l t (letters_of p)) (weight l t (letters_of q))
+  order_as p q v w g h l z =
+      ap₂ (λ x y. nat_cmp (on l x) (on l y)) (newer_is p v g).1 (newer_is q w h).1
+      ∙ (z ∙ ap₂ (λ x y. nat_cmp (on l x) (on l y)) (sym (older_is p v g).1) (sym (older_is q w h).1))
+
+  pub order_changed : (p q : Piece) (v w : Weighed) (c : Change) → SameRuns (old_in marks) t u
+      → ((run : List ℕ) → old_piece (old_in marks) t run ≡ true → Counted run) → old_piece (old_in marks) t (letters_of p) ≡ true → old_piece (old_in marks) t (letters_of q) ≡ true
       → WeighedIn t u p (Ok v) → WeighedIn t u q (Ok w) → Tested (SameOrder v w) (Order v.piece w.piece) (Err c) → Decided (old_in marks) t u (Err c)
-  order_changed p q v w c o r g h (l, is, not) =
+  order_changed p q v w c s z o r g h (l, is, not, first) =
       subst (λ c. Decided (old_in marks) t u (Err c)) (sym (is ∙ ap₂ (λ x y. Order x y l) g.0 h.0))
       (told (Order p q l) (
         both p o v g,
@@ -165,7 +195,7 @@ module _ (marks : List Bool) (t u : Rules) where
             ap₂ (λ x y. nat_cmp (on l x) (on l y)) (sym (newer_is p v g).1) (sym (newer_is q w h).1)
             ∙ (f ∙ ap₂ (λ x y. nat_cmp (on l x) (on l y)) (older_is p v g).1 (older_is q w h).1)
             ),
-      ))
+      ) (s, (λ m run e. (z run e).1 m), λ m k. order_as p q v w g h m (first m k)))
 
   pub stands : (q : Piece) (v w : Weighed) → WeighedIn t u q (Ok w) → Tested (SameOrder v w) (Order v.piece w.piece) (Ok tt) → StandsTo v (letters_of q)
   stands q v w h e l = ap (λ x. nat_cmp (on l v.newer) (on l x)) (newer_is q w h).1 ∙ (e l ∙ ap (λ x. nat_cmp (on l v.older) (on l x)) (sym (older_is q w h).1))
@@ -186,11 +216,20 @@ module _ (marks : List Bool) (older newer : Table) where
       → (run : List ℕ) → list_all (old_in marks) run ≡ true → (rules_of one).joins run ≡ true → (rules_of other).joins run ≡ true
   joined_too one other h run o e = let two = joined_two one run e in let k = h run in grind (arith, nat_tests)
 
+  pub none_joined : ((run : List ℕ) → old_piece (old_in marks) (rules_of newer) run ≡ true → is_piece (rules_of older) run ≡ true)
+      → NoneJoined marks (rules_of older) (rules_of newer)
+  none_joined a = joined_too newer older a
+
+  pub runs_kept : ((run : List ℕ) → old_piece (old_in marks) (rules_of newer) run ≡ true → is_piece (rules_of older) run ≡ true)
+      → ((run : List ℕ) → old_piece (old_in marks) (rules_of older) run ≡ true → Counted marks (rules_of older) (rules_of newer) run)
+      → SameRuns (old_in marks) (rules_of older) (rules_of newer)
+  runs_kept a b run o = both_ways ((rules_of newer).joins run) ((rules_of older).joins run) (joined_too newer older a run o) (joined_too older newer (λ r p. (b r p).0) run o)
+
   pub all_kept : ((run : List ℕ) → old_piece (old_in marks) (rules_of newer) run ≡ true → is_piece (rules_of older) run ≡ true)
       → ((run : List ℕ) → old_piece (old_in marks) (rules_of older) run ≡ true → Counted marks (rules_of older) (rules_of newer) run)
       → ((run : List ℕ) → old_piece (old_in marks) (rules_of older) run ≡ true → Placed marks (rules_of older) (rules_of newer) run)
       → Decided (old_in marks) (rules_of older) (rules_of newer) (Ok tt)
   all_kept a b d = let k : Keeps (old_in marks) (rules_of older) (rules_of newer) = record {
-    runs = λ run o. both_ways ((rules_of newer).joins run) ((rules_of older).joins run) (joined_too newer older a run o) (joined_too older newer (λ r p. (b r p).0) run o);
+    runs = runs_kept a b;
     levels = λ l. record { zeros = λ p o. (b p o).1 l; order = λ p q o r. d p o q r l };
   } in (k, newer_tables (old_in marks) (rules_of older) (rules_of newer) k)

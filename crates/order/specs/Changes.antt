@@ -1,10 +1,11 @@
 -- What stands otherwise under a newer table.
-use Rattle.std.specs.Prelude.{Bool, ℕ, true, false, Some, Ok, Err, Result, ◌&&◌, ◌==◌, ◌≡◌}
+use Rattle.std.specs.Prelude.{Bool, List, ℕ, ◌<◌, true, false, Some, Ok, Err, Result, ◌&&◌, ◌==◌, ◌≡◌}
 use Rattle.std.specs.List.{list_all}
 use Rattle.std.specs.Ordering.{nat_cmp}
 use Rattle.keys.specs.Rows.{on, weight}
 use Rattle.keys.specs.declared.level.Level.{Level}
-use Rattle.order.specs.Newer.{Keeps, KeepsNames, is_piece, old_piece}
+use Rattle.keys.specs.declared.level.Level.TheVariants.{Primary, Secondary, Tertiary}
+use Rattle.order.specs.Newer.{Keeps, KeepsNames, SameRuns, is_piece, old_piece}
 use Rattle.order.specs.Pieces.{letters_of, piece_weights}
 use Rattle.order.specs.declared.newer.Change.{Change}
 use Rattle.order.specs.declared.newer.Change.TheVariants.{Joins, Counts, Order}
@@ -27,11 +28,31 @@ Changed old t u (Order p q l) =
     InBoth old t u p × InBoth old t u q
     × (nat_cmp (weight l u (letters_of p)) (weight l u (letters_of q)) ≡ nat_cmp (weight l t (letters_of p)) (weight l t (letters_of q)) → ⊥)
 
+-- the levels in the order in which they are tested
+abbrev pub level_place : Level → ℕ
+level_place Primary = 0
+level_place Secondary = 1
+level_place Tertiary = 2
+
+-- What was tested before it holds: before weights that came to be 0, or not to be, that no old letters came to be one; before
+-- pieces that stand otherwise, that the same old letters are one and the same pieces weigh 0; and in both cases of these very
+-- pieces the levels in front.
+abbrev pub FirstOf : (old : ℕ → Bool) → Rules → Rules → Change → Type 0
+FirstOf old t u (Joins p) = Unit {0}
+FirstOf old t u (Counts p l) =
+    ((run : List ℕ) → list_all old run ≡ true → u.joins run ≡ true → t.joins run ≡ true)
+    × ((m : Level) → level_place m < level_place l → (weight m u (letters_of p) == 0) ≡ (weight m t (letters_of p) == 0))
+FirstOf old t u (Order p q l) =
+    SameRuns old t u
+    × ((m : Level) (r : List ℕ) → old_piece old t r ≡ true → (weight m u r == 0) ≡ (weight m t r == 0))
+    × ((m : Level) → level_place m < level_place l →
+    nat_cmp (weight m u (letters_of p)) (weight m u (letters_of q)) ≡ nat_cmp (weight m t (letters_of p)) (weight m t (letters_of q)))
+
 -- The newer table keeps what the older says of old letters, and so names in old letters stand to each other as before; or it
--- doesn't, and something has changed.
+-- doesn't, and what is told has changed, and what was tested before it has not.
 abbrev pub Decided : (old : ℕ → Bool) → Rules → Rules → Result Unit Change → Type 0
 Decided old t u (Ok x) = Keeps old t u × KeepsNames old t u
-Decided old t u (Err c) = Changed old t u c × (Keeps old t u → ⊥)
+Decided old t u (Err c) = Changed old t u c × FirstOf old t u c × (Keeps old t u → ⊥)
 
 -- what a piece weighs under both tables, or that it is a piece in one of them only
 abbrev pub WeighedIn : Rules → Rules → Piece → Result Weighed Change → Type 0
@@ -46,7 +67,7 @@ SameZero w l = (on l w.newer == 0) ≡ (on l w.older == 0)
 abbrev pub SameOrder : Weighed → Weighed → Level → Type 0
 SameOrder v w l = nat_cmp (on l v.newer) (on l w.newer) ≡ nat_cmp (on l v.older) (on l w.older)
 
--- something holds on every level; or it doesn't on some level, and the change is told of that one
+-- something holds on every level; or it doesn't on some level, the first such, and the change is told of that one
 abbrev pub Tested : (Level → Type 0) → (Level → Change) → Result Unit Change → Type 0
 Tested P change (Ok x) = (l : Level) → P l
-Tested P change (Err c) = (l : Level) × (c ≡ change l) × (P l → ⊥)
+Tested P change (Err c) = (l : Level) × (c ≡ change l) × (P l → ⊥) × ((m : Level) → level_place m < level_place l → P m)
