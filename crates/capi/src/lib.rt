@@ -95,8 +95,8 @@ pub extern "C" fn nullahbowl_check(
     }
 }
 
-// The same of many questions, so that table and lists are checked once: one behind the other, with starts, as names have.
-// Each part is where the names are that begin as its question asks.
+// Where the part of each of many questions is, behind one check of table and lists. The questions stand one behind the other, with
+// starts, as names do.
 #[unsafe(no_mangle)]
 pub extern "C" fn nullahbowl_find_each(
     letters: &[u16],
