@@ -1,0 +1,225 @@
+// The rules of the order, written down once more over plain numbers. Nothing here asks the library.
+ghost use Rattle.std.specs.Prelude.{◌≡◌, ◌/◌, length};
+
+use std::alloc::{AllocError, Global};
+use std::cmp::Ordering;
+use std::fmt;
+use table::{Pair, Refusal, Weights};
+
+// The numbers of a table, as they are lent; they need not be those of one.
+#[derive(Drop)]
+pub(crate) struct Plain {
+    pub(crate) letters: Vec<u16>,
+    pub(crate) pairs: Vec<u16>,
+    pub(crate) how_many: u64,
+}
+
+impl Plain {
+    // A table in which nothing weighs anything.
+    pub(crate) fn new(heap: Global) -> Result<Plain, AllocError> {
+        Ok(Plain {
+            letters: vec![in heap; 0; 768]?,
+            pairs: Vec::new(heap),
+            how_many: 0,
+        })
+    }
+
+    pub(crate) fn copy(&self, heap: Global) -> Result<Plain, AllocError> {
+        Ok(Plain {
+            letters: self.letters.to_vec(heap)?,
+            pairs: self.pairs.to_vec(heap)?,
+            how_many: self.how_many,
+        })
+    }
+
+    pub(crate) fn set_letter(&mut self, letter: u8, weights: [u16; 3]) {
+        for (level, weight) in weights.iter().enumerate() {
+            if let Some(number) = self.letters.get_mut(3 * letter as usize + level) {
+                *number = *weight;
+            }
+        }
+    }
+
+    pub(crate) fn push_pair(
+        &mut self,
+        first: u16,
+        second: u16,
+        weights: [u16; 3],
+    ) -> Result<(), AllocError> {
+        self.pairs.push(first)?;
+        self.pairs.push(second)?;
+        self.pairs.extend_from_slice(&weights)?;
+        self.how_many = self.how_many.saturating_add(1);
+        Ok(())
+    }
+
+    // A pair less.
+    pub(crate) fn drop_pair(&mut self, heap: Global, place: usize) -> Result<(), AllocError> {
+        let mut pairs = Vec::new(heap);
+        for (k, pair) in self.pairs.chunks(5).enumerate() {
+            if k != place {
+                pairs.extend_from_slice(pair)?;
+            }
+        }
+        self.pairs = pairs;
+        self.how_many = self.pair_count() as u64;
+        Ok(())
+    }
+
+    pub(crate) fn pair_count(&self) -> usize
+        ensures { result ≡ length self.now.pairs.items / 5 }
+    {
+        self.pairs.len() / 5
+    }
+
+    // What a letter weighs.
+    pub(crate) fn letter(&self, letter: u8) -> [u16; 3] {
+        let at = 3 * letter as usize;
+        match self.letters.get(at..at + 3) {
+            Some([primary, secondary, tertiary]) => [*primary, *secondary, *tertiary],
+            _ => [0; 3],
+        }
+    }
+
+    // What two letters weigh together, where they are one.
+    pub(crate) fn pair(&self, first: u8, second: u8) -> Option<[u16; 3]> {
+        for pair in self.pairs.chunks_exact(5) {
+            if let [one, other, primary, secondary, tertiary] = pair {
+                if *one == first as u16 && *other == second as u16 {
+                    return Some([*primary, *secondary, *tertiary]);
+                }
+            }
+        }
+        None
+    }
+
+    // The pair at a place.
+    pub(crate) fn pair_at(&self, place: usize) -> Option<Pair> {
+        match self.pairs.chunks_exact(5).nth(place) {
+            Some([first, second, primary, secondary, tertiary]) => Some(Pair {
+                first: *first,
+                second: *second,
+                weights: Weights::from([*primary, *secondary, *tertiary]),
+            }),
+            _ => None,
+        }
+    }
+
+    // What is wrong with the numbers as those of a table.
+    pub(crate) fn refusal(&self) -> Option<Refusal> {
+        if self.letters.len() != 768 {
+            return Some(Refusal::Letters);
+        }
+        if self.how_many.checked_mul(5) != Some(self.pairs.len() as u64) {
+            return Some(Refusal::Shape);
+        }
+        if self.how_many > 200 {
+            return Some(Refusal::TooMany);
+        }
+        for (place, pair) in self.pairs.chunks_exact(5).enumerate() {
+            if pair.iter().take(2).any(|letter| *letter > 255) {
+                return Some(Refusal::Foreign(place));
+            }
+        }
+        for (place, pair) in self.pairs.chunks_exact(5).enumerate() {
+            for earlier in self.pairs.chunks_exact(5).take(place) {
+                if earlier.get(..2) == pair.get(..2) {
+                    return Some(Refusal::Twice(place));
+                }
+            }
+        }
+        None
+    }
+
+    // What a name is read as, from the left: the weights of each letter, and of two that are one.
+    fn pieces(&self, heap: Global, name: &[u8]) -> Result<Vec<[u16; 3]>, AllocError> {
+        let mut pieces = Vec::new(heap);
+        let mut taken = false;
+        for (place, letter) in name.iter().enumerate() {
+            if taken {
+                taken = false;
+                continue;
+            }
+            let together = match name.get(place + 1) {
+                Some(next) => self.pair(*letter, *next),
+                None => None,
+            };
+            taken = together.is_some();
+            pieces.push(together.unwrap_or(self.letter(*letter)))?;
+        }
+        Ok(pieces)
+    }
+
+    // A name, its key and its first row.
+    pub(crate) fn name(&self, heap: Global, name: &[u8]) -> Result<Name, AllocError> {
+        let pieces = self.pieces(heap, name)?;
+        let row = row(heap, &pieces, 0)?;
+        let mut key = row.to_vec(heap)?;
+        for level in 1..3 {
+            key.push(0)?;
+            key.extend_from_slice(&self::row(heap, &pieces, level)?)?;
+        }
+        Ok(Name {
+            letters: name.to_vec(heap)?,
+            key,
+            row,
+        })
+    }
+}
+
+// The weights of a level, without zeros.
+fn row(heap: Global, pieces: &[[u16; 3]], level: usize) -> Result<Vec<u32>, AllocError> {
+    let mut row = Vec::new(heap);
+    for piece in pieces {
+        if let Some(weight) = piece.get(level) {
+            if *weight != 0 {
+                row.push(*weight as u32)?;
+            }
+        }
+    }
+    Ok(row)
+}
+
+// Enough to make the table again: of letters that weigh the same, one behind the other, only the first is told.
+impl fmt::Display for Plain {
+    fn fmt<W: fmt::Write>(&self, f: &mut fmt::Formatter<W>) -> fmt::Result {
+        let numbers = self.letters.len();
+        write!(f, "{numbers} numbers of letters")?;
+        let mut last: &[u16] = &[];
+        for (letter, weights) in self.letters.chunks(3).enumerate() {
+            if weights != last {
+                write!(f, ", from {letter} {weights:?}")?;
+                last = weights;
+            }
+        }
+        let pairs = &self.pairs;
+        let how_many = self.how_many;
+        write!(f, "; {how_many} pairs {pairs:?}")
+    }
+}
+
+// A name as it was read under a table.
+#[derive(Drop)]
+pub(crate) struct Name {
+    pub(crate) letters: Vec<u8>,
+    pub(crate) key: Vec<u32>,
+    pub(crate) row: Vec<u32>,
+}
+
+// Which of two keys, or of two rows, is before the other, number by number.
+pub(crate) fn compare(one: &[u32], other: &[u32]) -> Ordering {
+    for (a, b) in one.iter().zip(other) {
+        if *a < *b {
+            return Ordering::Less;
+        }
+        if *a > *b {
+            return Ordering::Greater;
+        }
+    }
+    one.len().cmp(&other.len())
+}
+
+// Whether a row begins with another.
+pub(crate) fn begins(row: &[u32], asked: &[u32]) -> bool {
+    row.get(..asked.len()) == Some(asked)
+}
