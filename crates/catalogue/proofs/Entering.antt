@@ -1,7 +1,7 @@
 -- What a catalogue finds is what is found in the lists that it was made of.
-use Rattle.std.proofs.Common.{ℕ, Bool, List, Ok, slice_range, ◌&&◌}
+use Rattle.std.proofs.Common.{ℕ, Bool, List, Ok, slice_range}
 use Rattle.catalogue.specs.Checking.{ListsChecked, lists_of}
-use Rattle.catalogue.specs.Entry.{FindsIn, FindsUnder, are_listed}
+use Rattle.catalogue.specs.Entry.{FindsIn, FindsUnder}
 use Rattle.catalogue.specs.Finding.{FoundAt, may_ask}
 use Rattle.catalogue.specs.Lists.{Lists, lists}
 use Rattle.catalogue.specs.declared.view.Catalogue.{Catalogue}

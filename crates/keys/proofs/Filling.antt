@@ -37,8 +37,8 @@ pub grown : {X : Type 0} (done ws : List X) (n m : ℕ) (first room more : List 
 grown done ws n m first room more (a, e) b g =
     let t : take n room ≡ done = ap₂ take a e ∙ take_all done (drop n first) in
     let d : drop m room ≡ drop m first =
-        ap₂ drop (b ∙ ap (λ k. k + length ws) a) e
-        ∙ (drop_past done (drop n first) (length ws) ∙ (drop-drop (length ws) n first ∙ ap (λ k. drop k first) (sym b))) in
+    ap₂ drop (b ∙ ap (λ k. k + length ws) a) e
+    ∙ (drop_past done (drop n first) (length ws) ∙ (drop-drop (length ws) n first ∙ ap (λ k. drop k first) (sym b))) in
     (b ∙ (ap (λ k. k + length ws) a ∙ sym (length-append done ws)), g ∙ (ap₂ (λ x y. x ++ (ws ++ y)) t d ∙ sym (append_assoc done ws (drop m first))))
 
 -- three rows written so, with a 0 between, are a key

@@ -6,7 +6,7 @@ use Rattle.catalogue.specs.Finding.{looked_through, may_ask}
 use Rattle.catalogue.specs.Lists.{Lists, lists, name_at, name_of, names_fault}
 use Rattle.keys.specs.Rows.{key}
 use Rattle.order.specs.Names.{name_before}
-use Rattle.table.specs.Rules.{Rules, rules_in}
+use Rattle.table.specs.Rules.{Rules}
 
 -- the numbers of the first n, added up as far as 64 bits go
 unfoldable pub total : (ℕ → ℕ) → (n : ℕ) → ℕ

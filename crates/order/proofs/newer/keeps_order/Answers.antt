@@ -34,7 +34,7 @@ pub returns-in_err-same_zeros : goal.returns-in_err-same_zeros
 returns-in_err-same_zeros c =
     let o = met c.args.older.now c.args.old.now (Counted c.args.old.now (rules_of c.args.older.now) (rules_of c.args.newer.now)) c.loop-piece-2.piece-iterator c.in-Some-piece.piece _ c.in-Some-piece.ensures.steps c.loop-piece-2.invariant.2 in
     let j = none_joined c.args.old.now c.args.older.now c.args.newer.now
-        (walked_all c.args.newer.now c.args.old.now (λ q. is_piece (rules_of c.args.older.now) q ≡ true) c.loop-piece.piece-iterator c.in-None.ensures.steps c.loop-piece.invariant.2) in
+    (walked_all c.args.newer.now c.args.old.now (λ q. is_piece (rules_of c.args.older.now) q ≡ true) c.loop-piece.piece-iterator c.in-None.ensures.steps c.loop-piece.invariant.2) in
     let d = zero_changed c.args.old.now (rules_of c.args.older.now) (rules_of c.args.newer.now) c.in-Some-piece.piece c.in_ok-new-2.field-0 c.in_err-same_zeros.field-0.0 j o c.in_ok-new-2.ensures c.in_err-same_zeros.ensures in
     search rules
 
@@ -46,7 +46,7 @@ returns-in_err-same_order c =
     let a = walked_all c.args.newer.now c.args.old.now (λ q. is_piece (rules_of c.args.older.now) q ≡ true) c.loop-piece.piece-iterator c.in-None.ensures.steps c.loop-piece.invariant.2 in
     let b = walked_all c.args.older.now c.args.old.now (Counted c.args.old.now (rules_of c.args.older.now) (rules_of c.args.newer.now)) c.loop-piece-2.piece-iterator c.in-None-piece.ensures.steps c.loop-piece-2.invariant.2 in
     let d = order_changed c.args.old.now (rules_of c.args.older.now) (rules_of c.args.newer.now) c.in-Some-piece-2.piece c.in-Some-other.other c.in_ok-weighed.weighed c.in_ok-new-3.field-0 c.in_err-same_order.field-0.0
-        (runs_kept c.args.old.now c.args.older.now c.args.newer.now a b) b o r c.in_ok-weighed.ensures c.in_ok-new-3.ensures c.in_err-same_order.ensures in
+    (runs_kept c.args.old.now c.args.older.now c.args.newer.now a b) b o r c.in_ok-weighed.ensures c.in_ok-new-3.ensures c.in_err-same_order.ensures in
     subst (Decided (old_in c.args.old.now) (rules_of c.args.older.now) (rules_of c.args.newer.now)) (sym e) d
 
 pub loop-piece-2-preserved : goal.loop-piece-2-preserved

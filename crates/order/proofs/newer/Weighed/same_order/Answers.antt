@@ -1,4 +1,4 @@
-use Rattle.std.proofs.Common.{rules, refl, arith}
+use Rattle.std.proofs.Common.{rules, refl}
 use Rattle.order.specs.Changes.{SameOrder}
 use Rattle.order.proofs.Deciding.{levels_before}
 use Rattle.order.proofs.newer.Weighed.same_order.Goals as goal
