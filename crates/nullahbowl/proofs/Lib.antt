@@ -1,1 +1,4 @@
 pub mod Growing
+pub mod Progress
+pub mod Tables
+pub mod Words

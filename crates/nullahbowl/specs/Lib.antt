@@ -1,4 +1,6 @@
+pub mod Answers
 pub mod Arguments
+pub mod Comparing
 pub mod Failing
 pub mod Sessions
 pub mod Writing

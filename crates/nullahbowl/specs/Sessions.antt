@@ -2,7 +2,7 @@
 use Rattle.std.specs.Prelude.{◌≡◌, ℕ, Bool, true, false, cond, List, [], ◌∷◌, ◌++◌, length, map, replicate, slice_index_or, slice_set, Some, None, Ok, Err, Option, Result, vec_items, ◌&&◌}
 use Rattle.std.specs.declared.alloc.AllocError.{AllocError}
 use Rattle.catalogue.specs.Arranging.{Arranged}
-use Rattle.catalogue.specs.Filling.{Appended, SameNames, TooMuch, held_rules, held_starts, held_text}
+use Rattle.catalogue.specs.Filling.{Kept, Appended, SameNames, TooMuch, held_rules, held_starts, held_text}
 use Rattle.catalogue.specs.Finding.{looked_through, may_ask}
 use Rattle.catalogue.specs.Lists.{Lists, lists, name_of}
 use Rattle.keys.specs.Making.{Made}
@@ -72,7 +72,7 @@ pub record Same (s t : Session) : Type 0 where
 -- all names are in order, and nothing else changes; or there is no memory
 abbrev pub Settled : Session → Result Unit AllocError → Session → Type 0
 Settled s (Ok x) t = (t.book.arranged ≡ true) × Same s t
-Settled s (Err x) t = (s.book.arranged ≡ false) × Same s t
+Settled s (Err x) t = (s.book.arranged ≡ false) × (t ≡ s)
 
 -- A letter that has no line yet weighs so, and the table is that of the lines; a second line for it, at place k, is turned away.
 -- There may be no memory where it is the first line of a table. What is not taken changes nothing.
@@ -89,8 +89,9 @@ Weighed s a w k (Err (Refused (Table why))) t = ⊥
 Weighed s a w k (Err Full) t = ⊥
 Weighed s a w k (Err NoMemory) t = (slice_index_or s.weighed a false ≡ false) × (s.own ≡ false) × (t ≡ s)
 
--- A pair is added to those of the lines, and the table is that of the lines. Where it can't be one of them it is turned away, as
--- the table says, and nothing changes. Or there is no memory, and what all say is the same.
+-- A pair is added to those of the lines, and the table is that of the lines. Where it can't be one of them it is turned away,
+-- as the table says, and nothing changes. Or there is no memory, and what all say is the same; where it is the first line of a
+-- table, nothing changes then.
 abbrev pub Joined : Session → Pair → Result Unit TakeError → Session → Type 0
 Joined s p (Ok x) t =
     (pair_refusal (entered_rules s) (length (entered_pairs s)) p ≡ None)
@@ -104,8 +105,8 @@ Joined s p (Err (Refused (Question why))) t = ⊥
 Joined s p (Err (Refused (Name why))) t = ⊥
 Joined s p (Err Full) t = ⊥
 Joined s p (Err NoMemory) t =
-    (s.own ≡ true → pair_refusal (entered_rules s) (length (entered_pairs s)) p ≡ None)
-    × (held_rules t.book ≡ held_rules s.book) × (buffer_pairs t.book.table ≡ buffer_pairs s.book.table) × SameEntries s t × SameNames s.book t.book
+    (pair_refusal (entered_rules s) (length (entered_pairs s)) p ≡ None) × (s.own ≡ false → t ≡ s)
+    × (held_rules t.book ≡ held_rules s.book) × (buffer_pairs t.book.table ≡ buffer_pairs s.book.table) × SameEntries s t × Kept s.book t.book
 
 -- What asks for names is turned away if it is too long, and changes nothing; else all names are in order. There may be no memory
 -- where they were not yet.
@@ -117,7 +118,7 @@ Prepared s n (Err (Refused (Text j))) t = ⊥
 Prepared s n (Err (Refused (Name why))) t = ⊥
 Prepared s n (Err (Refused (Table why))) t = ⊥
 Prepared s n (Err Full) t = ⊥
-Prepared s n (Err NoMemory) t = (name_refusal n ≡ None) × (s.book.arranged ≡ false) × Same s t
+Prepared s n (Err NoMemory) t = (name_refusal n ≡ None) × (s.book.arranged ≡ false) × (t ≡ s)
 
 -- what was done, where nothing is asked for
 abbrev pub done : Result Answer TakeError → Option (Result Unit TakeError)
@@ -140,7 +141,7 @@ NameTaken s n (Err (Refused (Text j))) t = ⊥
 NameTaken s n (Err (Refused (Question why))) t = ⊥
 NameTaken s n (Err (Refused (Table why))) t = ⊥
 NameTaken s n (Err Full) t = (name_refusal n ≡ None) × TooMuch s.book n × (t ≡ s)
-NameTaken s n (Err NoMemory) t = (name_refusal n ≡ None) × (TooMuch s.book n → ⊥) × Same s t
+NameTaken s n (Err NoMemory) t = (name_refusal n ≡ None) × (TooMuch s.book n → ⊥) × (t.book.table ≡ s.book.table) × SameEntries s t × Kept s.book t.book
 
 -- a key is made, or not, as under a checked table
 abbrev pub KeyAnswered : Rules → List ℕ → Result Answer TakeError → Type 0

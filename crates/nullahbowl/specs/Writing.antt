@@ -1,7 +1,14 @@
 -- What is written.
-use Rattle.std.specs.Prelude.{ℕ, ◌-◌, ◌^◌, cond, decimal, length, take, List, [], ◌∷◌, ◌++◌}
+use Rattle.std.specs.Prelude.{ℕ, zero, suc, ◌-◌, ◌^◌, ◌==◌, ◌&&◌, Bool, cond, decimal, length, take, List, [], ◌∷◌, ◌++◌}
+use Rattle.std.specs.List.{flat_map}
 use Rattle.std.specs.Option.{unwrap_or}
 use Rattle.nullahbowl.specs.declared.argument.Options.{Options}
+use Rattle.table.specs.Rules.{Rules}
+use Rattle.table.specs.declared.piece.Pair as pair
+use Rattle.table.specs.declared.piece.Weights.{Weights}
+use Rattle.texts.specs.Written.{entry_text}
+use Rattle.texts.specs.declared.line.Entry.{Entry}
+use Rattle.texts.specs.declared.line.Entry.TheVariants.{Letter, Pair}
 
 -- names, each with a line feed behind it
 unfoldable pub lines_of : List (List ℕ) → List ℕ
@@ -12,3 +19,28 @@ lines_of (n ∷ ns) = n ++ 10 ∷ lines_of ns
 -- given
 abbrev pub found_text : Options → List (List ℕ) → List ℕ
 found_text o ns = cond o.count (decimal (length ns) ++ 10 ∷ []) (lines_of (take (unwrap_or o.first (2 ^ 64 - 1)) ns))
+
+-- an entry as the line that says it
+abbrev pub entry_line : Entry → List ℕ
+entry_line e = entry_text e ++ 10 ∷ []
+
+-- it doesn't count on any level
+abbrev pub weighs_nothing : Weights → Bool
+weighs_nothing w = w.primary == 0 && (w.secondary == 0 && w.tertiary == 0)
+
+-- the line of a letter, if it weighs something
+abbrev pub letter_line : (letter : ℕ) → Weights → List ℕ
+letter_line a w = cond (weighs_nothing w) [] (entry_line (Letter a w))
+
+-- the first n letters of a table that weigh something, in the order of their numbers, each as its line
+unfoldable pub letters_text : Rules → (n : ℕ) → List ℕ
+letters_text t zero = []
+letters_text t (suc n) = letters_text t n ++ letter_line n (t.weighs (n ∷ []))
+
+-- pairs, each as its line
+abbrev pub pairs_text : List pair.Pair → List ℕ
+pairs_text ps = flat_map (λ p. entry_line (Pair p)) ps
+
+-- a table as the lines that make it: all letters that weigh something, and then its pairs, as they lie
+abbrev pub table_text : Rules → List pair.Pair → List ℕ
+table_text t ps = letters_text t 256 ++ pairs_text ps

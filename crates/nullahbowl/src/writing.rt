@@ -1,13 +1,16 @@
-// Writing the names that are found.
+// Writing the names that are found, and tables.
 ghost use Rattle.std.specs.Prelude.{◌≡◌, OnOk};
 ghost use Rattle.std.specs.Io.KnownBytes.{Appends};
 ghost use Rattle.catalogue.specs.Naming.{names_left};
-ghost use Rattle.nullahbowl.specs.Writing.{found_text, lines_of};
+ghost use Rattle.nullahbowl.specs.Writing.{found_text, letter_line, letters_text, lines_of, pairs_text, table_text};
+ghost use Rattle.table.specs.Meaning.{pairs_of, rules_of};
 
 use crate::argument::Options;
 use catalogue::NamesFound;
 use std::io;
 use std::io::Write;
+use table::{Table, Weights};
+use texts::Entry;
 
 // The names that are found, or how many there are.
 pub fn write_found<W: Write>(out: &mut W, found: NamesFound, options: Options) -> io::Result<()>
@@ -27,6 +30,48 @@ fn write_names<W: Write>(out: &mut W, names: NamesFound) -> io::Result<()>
     for name in names {
         out.write_all(name)?;
         out.write_all(b"\n")?;
+    }
+    Ok(())
+}
+
+// A table as lines that make it: the letters that weigh something, and the pairs.
+pub fn write_table<W: Write>(out: &mut W, table: &Table) -> io::Result<()>
+    ensures { OnOk result (Appends (W.Write.contents out.old) (W.Write.contents out.new) (table_text (rules_of table.now) (pairs_of table.now))) }
+{
+    write_letters(out, table)?;
+    write_pairs(out, table)
+}
+
+// All letters that weigh something.
+fn write_letters<W: Write>(out: &mut W, table: &Table) -> io::Result<()>
+    ensures { OnOk result (Appends (W.Write.contents out.old) (W.Write.contents out.new) (letters_text (rules_of table.now) 256)) }
+{
+    for letter in 0..=255u8 {
+        write_letter(out, letter, table.letter(letter))?;
+    }
+    Ok(())
+}
+
+// A letter, if it weighs something.
+fn write_letter<W: Write>(out: &mut W, letter: u8, weights: Weights) -> io::Result<()>
+    ensures { OnOk result (Appends (W.Write.contents out.old) (W.Write.contents out.new) (letter_line letter weights)) }
+{
+    if weights == Weights::from([0, 0, 0]) {
+        return Ok(());
+    }
+    let entry = Entry::Letter(letter, weights);
+    writeln!(out, "{entry}")
+}
+
+// All pairs.
+fn write_pairs<W: Write>(out: &mut W, table: &Table) -> io::Result<()>
+    ensures { OnOk result (Appends (W.Write.contents out.old) (W.Write.contents out.new) (pairs_text (pairs_of table.now))) }
+{
+    for place in 0..table.pair_count() {
+        if let Some(pair) = table.pair_at(place) {
+            let entry = Entry::Pair(pair);
+            writeln!(out, "{entry}")?;
+        }
     }
     Ok(())
 }
