@@ -109,7 +109,8 @@ enum nullahbowl_verdict_what {
     NULLAHBOWL_NO_SUCH_NAME = 6,   /* a number is no name's; place: where in `places` */
     NULLAHBOWL_OUT_OF_ORDER = 7,   /* a name is before the one in front of it; place: where in `places` */
     NULLAHBOWL_BAD_QUESTIONS = 8,  /* questions or their starts are not as names should be; place: as of 2 to 5 */
-    NULLAHBOWL_OTHER_PARTS = 9     /* there are not as many parts as questions; place: how many questions */
+    NULLAHBOWL_OTHER_PARTS = 9     /* there are not as many parts as questions, or 2^32 questions or more;
+                                      place: how many questions */
 };
 
 typedef struct {
