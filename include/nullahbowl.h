@@ -11,7 +11,7 @@
  * A table. A letter is a byte, 0 to 255. `letters` are 768 numbers, three weights for each letter: those of letter x are
  * letters[3 * x], letters[3 * x + 1] and letters[3 * x + 2], on level one, two and three. A weight of 0 does not count on
  * its level. `pairs` are five numbers for each pair of letters that are one together: the two letters, and the three
- * weights of both. `how_many` says how many pairs there are, up to 200, no two of the same letters. The numbers are no
+ * weights that they have together. `how_many` says how many pairs there are, up to 200, no two of the same letters. The numbers are no
  * table, in this order, where
  *   1. the letters are not 768 numbers, or the pairs not 5 * how_many (place 0);
  *   2. there are more than 200 pairs (place 0);
@@ -20,7 +20,8 @@
  *
  * Names. `text` has all names, one behind the other, and `starts` where each begins, with the end of the text behind. So
  * the name of number i is text[starts[i]] and so on, up to, but without, text[starts[i + 1]]; there is one start more than
- * there are names, and without names there is the end alone. A name has up to 1,000 letters, and may have none. `places`
+ * there are names, and without names there is the end alone. The first start need not be 0: text in front of it is nobody's
+ * name. The last is the end of the text, which so has less than 2^32 letters. A name has up to 1,000 letters, and may have none. `places`
  * are numbers of names in order: of all names or of some, and one may be there twice. Names are in order where their keys
  * are; names of equal keys may stand either way round.
  *
@@ -77,7 +78,7 @@ nullahbowl_key_answer nullahbowl_key(
     const uint8_t *name, size_t name_len,
     uint16_t *room, size_t room_len);
 
-/* A part of `places`: places[place] and as many behind it as make `length`. */
+/* A part of `places`: the `length` numbers from places[place] on. */
 typedef struct {
     size_t place;
     size_t length;
@@ -86,7 +87,8 @@ typedef struct {
 /* The part of `places` whose names begin as asked: their first weights, without those that are 0, begin with those of what
  * is asked. Where what is asked has none all names begin so. Where no name begins so the length is 0, and the place is
  * where such names would stand. Where table or lists are not as they should be, or more than 1,000 letters are asked with,
- * both are 0; nullahbowl_check says what is wrong with table or lists.
+ * both are 0, as they are of a part of none at the front of the list; nullahbowl_check says what is wrong with table or
+ * lists.
  *
  * Table and lists are checked each time: all of them are gone over, and each name of the list is compared with the one in
  * front of it. Finding itself looks at a few names only. */

@@ -9,7 +9,7 @@ use table::Refusal;
 
 // What became of a key.
 #[repr(C)]
-#[derive(Clone, Copy, PartialEq, Eq, Debug)]
+#[derive(Clone, Copy)]
 pub struct KeyAnswer {
     // 0 it stands in the front of the room, 1 the room is too short, 2 it was turned away.
     pub what: u32,
@@ -32,7 +32,7 @@ impl From<Done> for KeyAnswer {
 
 // A part of a list.
 #[repr(C)]
-#[derive(Clone, Copy, PartialEq, Eq, Debug)]
+#[derive(Clone, Copy)]
 pub struct Part {
     // Where it begins.
     pub place: usize,
@@ -54,12 +54,12 @@ impl From<Range<usize>> for Part {
 
 // What is wrong, and where.
 #[repr(C)]
-#[derive(Clone, Copy, PartialEq, Eq, Debug)]
+#[derive(Clone, Copy)]
 pub struct Verdict {
     // 0 nothing, 1 the table; of lists 2 no start, 3 a start falls, 4 a name is too long, 5 the text ends elsewhere, 6 no such
-    // name, 7 out of order; 8 the starts of questions, 9 how many parts there are.
+    // name, 7 out of order; 8 questions or their starts, 9 there are not as many parts as questions, or too many questions.
     pub what: u32,
-    // The place at fault, counted from 0; else 0.
+    // The place at fault, counted from 0; with 9 how many questions there are; else 0.
     pub place: u64,
 }
 
@@ -71,7 +71,7 @@ impl Verdict {
         Verdict { what: 0, place: 0 }
     }
 
-    // This is wrong at that place.
+    // This is wrong, with a place, or how many.
     pub(crate) fn of(what: u32, place: usize) -> Verdict
         ensures { result ≡ record { what = what; place = place } }
     {

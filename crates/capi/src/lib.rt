@@ -1,8 +1,8 @@
 // Keys and finding for C and Rust, on numbers and slices.
 //
 // A static library: each function here is one that C calls, and include/nullahbowl.h says the same to C. A slice crosses as a
-// pointer and a length; lengths are tested inside, and nothing is asked of the caller but memory that is there. Answers are
-// plain numbers (answer).
+// pointer and a length; lengths are tested inside, and nothing is asked of the caller but what the head of the header says of
+// pointers. Answers are plain numbers (answer).
 #![tactic(auto)]
 
 ghost use Rattle.std.specs.Prelude.{◌≡◌, ◌+◌, ◌-◌, ◌^◌, ◌<◌, length, slice_range};

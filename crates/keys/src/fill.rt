@@ -65,7 +65,7 @@ fn fill_with<T: Cell>(numbers: KeyNumbers, room: &mut [T]) -> usize
     ensures count { result ≡ length (numbers_left numbers.entry) }
     ensures room { room.new ≡ map T.cell (numbers_left numbers.entry) ++ drop result room.old }
 {
-    // Tried as a `zip` with the room's cells and `count`, which says nothing of what is left in the room: no proof.
+    // A `zip` with the room's cells and `count` would say nothing of what is left in the room.
     let mut n = 0;
     for number in numbers {
         room[n] = T::of(number);

@@ -1,6 +1,5 @@
 // Whether one table may take the place of another.
 ghost use Rattle.std.specs.Prelude.{◌≡◌, IfOk, is_ok};
-ghost use Rattle.catalogue.specs.Filling.{held_rules};
 ghost use Rattle.nullahbowl.specs.Comparing.{ChangesOf, comparison_text};
 ghost use Rattle.std.specs.Io.KnownBytes.{Appends};
 

@@ -1,5 +1,5 @@
 // Writing the names that are found, and tables.
-ghost use Rattle.std.specs.Prelude.{◌≡◌, OnOk};
+ghost use Rattle.std.specs.Prelude.{OnOk};
 ghost use Rattle.std.specs.Io.KnownBytes.{Appends};
 ghost use Rattle.catalogue.specs.Naming.{names_left};
 ghost use Rattle.nullahbowl.specs.Writing.{found_text, letter_line, letters_text, lines_of, pairs_text, table_text};

@@ -70,20 +70,6 @@ found_there t x n l m =
     some_joins t _
     ∙ sym (ap (λ k. straddles t.joins (take k x) (drop k x)) (sym e) ∙ (at_place t.joins x (n - 1) (omega (arith, l, m)) ∙ ap (λ k. t.joins (slice_index x (n - 1) ∷ (slice_index x k ∷ []))) e))
 
--- more letters that are the same
-pub one_more : (a b : List ℕ) (n : ℕ) → n < length a → n < length b → take n a ≡ take n b → slice_index a n ≡ slice_index b n → take (n + 1) a ≡ take (n + 1) b
-one_more [] b n l m e f = absurd (omega arith)
-one_more (x ∷ a) [] n l m e f = absurd (omega arith)
-one_more (x ∷ a) (y ∷ b) zero l m e f = ap (λ z. z ∷ []) f
-one_more (x ∷ a) (y ∷ b) (suc n) l m e f = let ih = one_more a b n (omega arith) (omega arith) in grind arith
-
-pub one_less : (a b : List ℕ) (n : ℕ) → take (suc n) a ≡ take (suc n) b → take n a ≡ take n b
-one_less a b zero e = refl
-one_less [] [] (suc n) e = refl
-one_less [] (y ∷ b) (suc n) e = grind arith
-one_less (x ∷ a) [] (suc n) e = grind arith
-one_less (x ∷ a) (y ∷ b) (suc n) e = let ih = one_less a b n in grind arith
-
 zeros_parted : (xs ys : List ℕ) → without_zeros (xs ++ ys) ≡ without_zeros xs ++ without_zeros ys
 unfolding without_zeros
 zeros_parted [] ys = refl

@@ -2,7 +2,6 @@
 ghost use Rattle.std.specs.Prelude.{◌≡◌, ◌+◌, ◌<◌, ◌≤◌, ◌++◌, ◌∷◌, [], true, take};
 ghost use Rattle.keys.specs.Rows.{row};
 ghost use Rattle.keys.specs.declared.level.Level.TheVariants.{Primary};
-ghost use Rattle.order.specs.Rows.{begins, row_order};
 ghost use Rattle.table.specs.Meaning.{rules_of};
 
 use crate::collate::{Collate, Standing};

@@ -36,6 +36,6 @@ Added b p (Ok x) c =
     × (buffer_rules c ≡ with_pair (buffer_rules b) p)
     × (buffer_pairs c ≡ buffer_pairs b ++ p ∷ [])
 Added b p (Err (Refused why)) c =
-    (pair_refusal (buffer_rules b) (length (buffer_pairs b)) p ≡ Some why) × (buffer_rules c ≡ buffer_rules b) × (buffer_pairs c ≡ buffer_pairs b)
+    (pair_refusal (buffer_rules b) (length (buffer_pairs b)) p ≡ Some why) × (c ≡ b)
 Added b p (Err NoMemory) c =
     (pair_refusal (buffer_rules b) (length (buffer_pairs b)) p ≡ None) × (buffer_rules c ≡ buffer_rules b) × (buffer_pairs c ≡ buffer_pairs b)

@@ -134,7 +134,7 @@ fn finds_of(catalogue: &Catalogue, questions: &Names) -> u64
     found
 }
 
-// A list of all names, made and copied into `places`; whether it could be, and there were as many places.
+// A list of all names, made and copied into `places`: true where it is; then there are as many places as names.
 #[unsafe(no_mangle)]
 pub extern "C" fn timing_list(
     heap: Global,

@@ -93,7 +93,6 @@ impl CatalogueBuf {
     pub fn add_pair(&mut self, pair: Pair) -> Result<(), AddError>
         ensures { PairAdded self.old pair result self.new }
     {
-        self.table.allows(pair)?;
         self.table.add_pair(pair)?;
         let_go(&mut self.places, &mut self.arranged);
         Ok(())
