@@ -11,19 +11,19 @@
  * A table. A letter is a byte, 0 to 255. `letters` are 768 numbers, three weights for each letter: those of letter x are
  * letters[3 * x], letters[3 * x + 1] and letters[3 * x + 2], on level one, two and three. A weight of 0 does not count on
  * its level. `pairs` are five numbers for each pair of letters that are one together: the two letters, and the three
- * weights that they have together. `how_many` says how many pairs there are, up to 200, no two of the same letters. The numbers are no
- * table, in this order, where
+ * weights that they have together. `how_many` says how many pairs there are, up to 200, no two of the same letters. The
+ * numbers are no table, in this order, where
  *   1. the letters are not 768 numbers, or the pairs not 5 * how_many (place 0);
  *   2. there are more than 200 pairs (place 0);
  *   3. a letter of a pair is above 255 (place: the first such pair);
  *   4. a pair has the two letters of an earlier one (place: the first such pair, the later of the two).
  *
  * Names. `text` has all names, one behind the other, and `starts` where each begins, with the end of the text behind. So
- * the name of number i is text[starts[i]] and so on, up to, but without, text[starts[i + 1]]; there is one start more than
- * there are names, and without names there is the end alone. The first start need not be 0: text in front of it is nobody's
- * name. The last is the end of the text, which so has less than 2^32 letters. A name has up to 1,000 letters, and may have none. `places`
- * are numbers of names in order: of all names or of some, and one may be there twice. Names are in order where their keys
- * are; names of equal keys may stand either way round.
+ * the name of number i is text[starts[i]] and so on, up to, but without, text[starts[i + 1]]; there is one start more
+ * than there are names, and without names there is the end alone. The first start need not be 0: text in front of it is
+ * nobody's name. The last is the end of the text, which so has less than 2^32 letters. A name has up to 1,000 letters,
+ * and may have none. `places` are numbers of names in order: of all names or of some, and one may be there twice. Names
+ * are in order where their keys are; names of equal keys may stand either way round.
  *
  * Places count from 0. */
 #ifndef NULLAHBOWL_H

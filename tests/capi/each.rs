@@ -2,55 +2,9 @@
 use crate::damage;
 use crate::inputs::{self, Input, Random};
 use crate::lent::Fenced;
-use crate::library::{Lists, Part, Table, Verdict};
+use crate::library::{find_each, Lists, Part, Table, Verdict};
 use crate::plain::{self, Known, FINE};
 use crate::{lengths, Drive};
-
-extern "C" {
-    fn nullahbowl_find_each(
-        letters: *const u16,
-        letters_len: usize,
-        pairs: *const u16,
-        pairs_len: usize,
-        how_many: u64,
-        text: *const u8,
-        text_len: usize,
-        starts: *const u32,
-        starts_len: usize,
-        places: *const u32,
-        places_len: usize,
-        asks: *const u8,
-        asks_len: usize,
-        ask_starts: *const u32,
-        ask_starts_len: usize,
-        parts: *mut Part,
-        parts_len: usize,
-    ) -> Verdict;
-}
-
-fn find_each(table: Table, lists: Lists, asks: &[u8], ask_starts: &[u32], parts: &mut [Part]) -> Verdict {
-    unsafe {
-        nullahbowl_find_each(
-            table.letters.as_ptr(),
-            table.letters.len(),
-            table.pairs.as_ptr(),
-            table.pairs.len(),
-            table.how_many,
-            lists.text.as_ptr(),
-            lists.text.len(),
-            lists.starts.as_ptr(),
-            lists.starts.len(),
-            lists.places.as_ptr(),
-            lists.places.len(),
-            asks.as_ptr(),
-            asks.len(),
-            ask_starts.as_ptr(),
-            ask_starts.len(),
-            parts.as_mut_ptr(),
-            parts.len(),
-        )
-    }
-}
 
 // What it answers, and the parts where they are written.
 fn answer(known: &Known, table: Table, asks: &[u8], ask_starts: &[u32], parts: usize) -> (Verdict, Vec<Part>) {

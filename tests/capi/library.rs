@@ -75,6 +75,25 @@ extern "C" {
         places: *const u32,
         places_len: usize,
     ) -> Verdict;
+    fn nullahbowl_find_each(
+        letters: *const u16,
+        letters_len: usize,
+        pairs: *const u16,
+        pairs_len: usize,
+        how_many: u64,
+        text: *const u8,
+        text_len: usize,
+        starts: *const u32,
+        starts_len: usize,
+        places: *const u32,
+        places_len: usize,
+        asks: *const u8,
+        asks_len: usize,
+        ask_starts: *const u32,
+        ask_starts_len: usize,
+        parts: *mut Part,
+        parts_len: usize,
+    ) -> Verdict;
 }
 
 // No slice's pointer is null or unaligned, and what is lent to be written is lent to nobody else: that is all that is asked.
@@ -129,6 +148,30 @@ pub fn check(table: Table, lists: Lists) -> Verdict {
             lists.starts.len(),
             lists.places.as_ptr(),
             lists.places.len(),
+        )
+    }
+}
+
+pub fn find_each(table: Table, lists: Lists, asks: &[u8], ask_starts: &[u32], parts: &mut [Part]) -> Verdict {
+    unsafe {
+        nullahbowl_find_each(
+            table.letters.as_ptr(),
+            table.letters.len(),
+            table.pairs.as_ptr(),
+            table.pairs.len(),
+            table.how_many,
+            lists.text.as_ptr(),
+            lists.text.len(),
+            lists.starts.as_ptr(),
+            lists.starts.len(),
+            lists.places.as_ptr(),
+            lists.places.len(),
+            asks.as_ptr(),
+            asks.len(),
+            ask_starts.as_ptr(),
+            ask_starts.len(),
+            parts.as_mut_ptr(),
+            parts.len(),
         )
     }
 }
