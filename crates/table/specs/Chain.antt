@@ -1,5 +1,5 @@
 -- The pairs chained, so that looking one up meets few others: those of the same bucket, from the last to the first.
-use Rattle.std.specs.Prelude.{ℕ, zero, suc, ◌+◌, ◌*◌, ◌%◌, cond, List, map, Some, None, Option, ◌==◌}
+use Rattle.std.specs.Prelude.{ℕ, zero, suc, ◌+◌, ◌*◌, ◌%◌, Bool, false, cond, ◌||◌, List, map, Some, None, Option, ◌==◌}
 use Rattle.std.specs.List.{range_with_len}
 use Rattle.table.specs.Numbers.{first_at, second_at}
 
@@ -23,3 +23,12 @@ heads_of ps n = map (last_in ps n) (range_with_len 0 256)
 -- what is next in the chain behind the pair at place k
 abbrev pub link_of : List ℕ → ℕ → Option ℕ
 link_of ps k = last_in ps k (bucket_at ps k)
+
+-- one of the first n pairs begins with the letter
+unfoldable pub begun : List ℕ → (n : ℕ) → (letter : ℕ) → Bool
+begun ps zero a = false
+begun ps (suc k) a = first_at ps k == a || begun ps k a
+
+-- the same of each letter
+abbrev pub marks_of : List ℕ → (n : ℕ) → List Bool
+marks_of ps n = map (begun ps n) (range_with_len 0 256)

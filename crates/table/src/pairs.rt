@@ -1,7 +1,7 @@
 // The pairs of a table, five numbers each: two letters and three weights. Those of the same bucket are chained from the last to
 // the first, so that looking one up meets few others.
 ghost use Rattle.std.specs.Prelude.{◌≡◌, ℕ, ◌*◌, ◌<◌, ◌≤◌, length, None, slice_index_or};
-ghost use Rattle.table.specs.Chain.{heads_of, link_of};
+ghost use Rattle.table.specs.Chain.{heads_of, link_of, marks_of};
 ghost use Rattle.table.specs.Refusals.{first_place, foreign, repeated};
 
 mod chain;
@@ -12,6 +12,8 @@ pub struct Pairs<'a> {
     numbers: &'a [u16],
     // How many of them are chained: the first so many, and all in a table. While they are chained it says how far that is.
     count: usize,
+    // For each letter whether a pair begins with it, so that most letters cost one look.
+    begins: [bool; 256],
     // For each bucket the last pair that is in it. Places in arrays, and not lists, since a table asks for no memory.
     heads: [Option<u8>; 256],
     // For each pair the one before it that is in the same bucket.
@@ -20,6 +22,7 @@ pub struct Pairs<'a> {
     ghost few: { count ≤ 200 },
     ghost known: { first_place (foreign numbers.now) count ≡ None },
     ghost apart: { first_place (repeated numbers.now) count ≡ None },
+    ghost marked: { begins ≡ marks_of numbers.now count },
     ghost begun: { heads ≡ heads_of numbers.now count },
     ghost linked: { (k : ℕ) → k < count → slice_index_or links k None ≡ link_of numbers.now k },
 }

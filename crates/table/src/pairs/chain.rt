@@ -2,6 +2,7 @@
 ghost use Rattle.std.specs.Prelude.{◌≡◌, ◌+◌, ◌*◌, ◌/◌, ◌<◌, ◌≤◌, false, length, None};
 ghost use Rattle.table.specs.Meaning.{AllChained, AreChained};
 ghost use Rattle.table.specs.Chain.{bucket, bucket_at};
+ghost use Rattle.table.specs.Numbers.{first_at};
 ghost use Rattle.table.specs.Refusals.{first_place, foreign, repeated};
 
 use crate::fault::Refusal;
@@ -16,6 +17,7 @@ impl<'a> Pairs<'a> {
         Pairs {
             numbers,
             count: 0,
+            begins: [false; 256],
             heads: [None; 256],
             links: [None; 200],
         }
@@ -44,12 +46,14 @@ impl<'a> Pairs<'a> {
     fn link(&mut self, first: u8, second: u8)
         requires within { 5 * self.old.count + 5 ≤ length self.old.numbers.now }
         requires few { self.old.count < 200 }
+        requires first { first_at self.old.numbers.now self.old.count ≡ first }
         requires bucket { bucket_at self.old.numbers.now self.old.count ≡ bucket first second }
         requires known { foreign self.old.numbers.now self.old.count ≡ false }
         requires apart { repeated self.old.numbers.now self.old.count ≡ false }
         ensures { AreChained self.old.numbers.now (self.old.count + 1) self.new }
     {
         let bucket = bucket(first, second) as usize;
+        self.begins[first as usize] = true;
         self.links[self.count] = self.heads[bucket];
         self.heads[bucket] = Some(self.count as u8);
         self.count += 1;

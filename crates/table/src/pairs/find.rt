@@ -46,6 +46,9 @@ impl<'a> Pairs<'a> {
         ensures place { result ≡ place_in self.now.numbers.now self.now.count first second }
         ensures bound { IfSome result (λ k. k < self.now.count) }
     {
+        if !self.begins[first as usize] {
+            return None;
+        }
         let mut at = self.heads[bucket(first, second) as usize];
         while let Some(place) = at {
             let k = place as usize;

@@ -28,7 +28,8 @@ pub returns-in_err-new-3 : goal.returns-in_err-new-3
 returns-in_err-new-3 c =
     let o = met c.args.older.now c.args.old.now (StandsTo c.args.old.now (rules_of c.args.older.now) (rules_of c.args.newer.now) c.in_ok-weighed.weighed) c.loop-other.other-iterator c.in-Some-other.other _ c.in-Some-other.ensures.steps c.loop-other.invariant.2 in
     let d = in_older_only c.args.old.now (rules_of c.args.older.now) (rules_of c.args.newer.now) c.in-Some-other.other c.in_err-new-3.field-0.0 o c.in_err-new-3.ensures in
-    search rules
+    let e : c.from_residual-in_err-new-3.result ≡ Err c.in_err-new-3.field-0.0 = search rules in
+    subst (Decided (old_in c.args.old.now) (rules_of c.args.older.now) (rules_of c.args.newer.now)) (sym e) d
 
 pub returns-in_err-same_zeros : goal.returns-in_err-same_zeros
 returns-in_err-same_zeros c =

@@ -1,6 +1,6 @@
 use Rattle.std.proofs.Common.{arith, sym}
 use Rattle.table.specs.Refusals.{foreign, repeated}
-use Rattle.table.proofs.Chaining.{no_heads}
+use Rattle.table.proofs.Chaining.{no_heads, no_marks}
 use Rattle.table.proofs.Firsts.{none_yet}
 use Rattle.table.proofs.pairs.Pairs.new.Goals as goal
 
@@ -12,6 +12,7 @@ invariant_of-result c =
       few = omega arith;
       known = none_yet (foreign ps);
       apart = none_yet (repeated ps);
+      marked = sym (no_marks ps);
       begun = sym (no_heads ps);
       linked = λ k l. absurd (omega arith);
     }
