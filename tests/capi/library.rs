@@ -96,82 +96,49 @@ extern "C" {
     ) -> Verdict;
 }
 
-// No slice's pointer is null or unaligned, and what is lent to be written is lent to nobody else: that is all that is asked.
+// Calls a function of a table and of slices, each as a pointer and a length. No slice's pointer is null or unaligned, and what is
+// lent to be written is lent to nobody else: that is all that is asked.
+macro_rules! call {
+    ($function:ident, $table:expr $(, $slice:expr => $pointer:ident)*) => {
+        unsafe {
+            $function(
+                $table.letters.as_ptr(),
+                $table.letters.len(),
+                $table.pairs.as_ptr(),
+                $table.pairs.len(),
+                $table.how_many
+                $(, $slice.$pointer(), $slice.len())*
+            )
+        }
+    };
+}
+
+// The same of a function that takes lists behind the table.
+macro_rules! call_with_lists {
+    ($function:ident, $table:expr, $lists:expr $(, $slice:expr => $pointer:ident)*) => {
+        call!(
+            $function,
+            $table,
+            $lists.text => as_ptr,
+            $lists.starts => as_ptr,
+            $lists.places => as_ptr
+            $(, $slice => $pointer)*
+        )
+    };
+}
 
 pub fn key(table: Table, name: &[u8], room: &mut [u16]) -> KeyAnswer {
-    unsafe {
-        nullahbowl_key(
-            table.letters.as_ptr(),
-            table.letters.len(),
-            table.pairs.as_ptr(),
-            table.pairs.len(),
-            table.how_many,
-            name.as_ptr(),
-            name.len(),
-            room.as_mut_ptr(),
-            room.len(),
-        )
-    }
+    call!(nullahbowl_key, table, name => as_ptr, room => as_mut_ptr)
 }
 
 pub fn find(table: Table, lists: Lists, ask: &[u8]) -> Part {
-    unsafe {
-        nullahbowl_find(
-            table.letters.as_ptr(),
-            table.letters.len(),
-            table.pairs.as_ptr(),
-            table.pairs.len(),
-            table.how_many,
-            lists.text.as_ptr(),
-            lists.text.len(),
-            lists.starts.as_ptr(),
-            lists.starts.len(),
-            lists.places.as_ptr(),
-            lists.places.len(),
-            ask.as_ptr(),
-            ask.len(),
-        )
-    }
+    call_with_lists!(nullahbowl_find, table, lists, ask => as_ptr)
 }
 
 pub fn check(table: Table, lists: Lists) -> Verdict {
-    unsafe {
-        nullahbowl_check(
-            table.letters.as_ptr(),
-            table.letters.len(),
-            table.pairs.as_ptr(),
-            table.pairs.len(),
-            table.how_many,
-            lists.text.as_ptr(),
-            lists.text.len(),
-            lists.starts.as_ptr(),
-            lists.starts.len(),
-            lists.places.as_ptr(),
-            lists.places.len(),
-        )
-    }
+    call_with_lists!(nullahbowl_check, table, lists)
 }
 
 pub fn find_each(table: Table, lists: Lists, asks: &[u8], ask_starts: &[u32], parts: &mut [Part]) -> Verdict {
-    unsafe {
-        nullahbowl_find_each(
-            table.letters.as_ptr(),
-            table.letters.len(),
-            table.pairs.as_ptr(),
-            table.pairs.len(),
-            table.how_many,
-            lists.text.as_ptr(),
-            lists.text.len(),
-            lists.starts.as_ptr(),
-            lists.starts.len(),
-            lists.places.as_ptr(),
-            lists.places.len(),
-            asks.as_ptr(),
-            asks.len(),
-            ask_starts.as_ptr(),
-            ask_starts.len(),
-            parts.as_mut_ptr(),
-            parts.len(),
-        )
-    }
+    call_with_lists!(nullahbowl_find_each, table, lists, asks => as_ptr, ask_starts => as_ptr, parts => as_mut_ptr)
 }
