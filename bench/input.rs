@@ -35,9 +35,16 @@ impl Texts {
 pub struct Numbers {
     pub letters: Vec<u16>,
     pub pairs: Vec<u16>,
+    // Whether names are read as UTF-8.
+    pub utf8: bool,
 }
 
 impl Numbers {
+    // The same letters and pairs, of names in UTF-8.
+    pub fn in_utf8(&self) -> Numbers {
+        Numbers { utf8: true, ..self.clone() }
+    }
+
     pub fn how_many(&self) -> u64 {
         self.pairs.len() as u64 / 5
     }
@@ -52,7 +59,7 @@ impl Numbers {
             letters[large..large + 3].copy_from_slice(&[primary, 1, 2]);
         }
         letters[3 * 39..3 * 40].copy_from_slice(&[0, 2, 1]);
-        Numbers { letters, pairs: vec![99, 104, 35, 1, 1] }
+        Numbers { letters, pairs: vec![99, 104, 35, 1, 1], utf8: false }
     }
 
     // The valley's letters, and 200 pairs: eight letters are one with each of the others.

@@ -181,6 +181,7 @@ impl<'a> Bench<'a> {
         rows.push(self.find_with_checks(races));
         rows.extend(self.lists(races));
         rows.push(self.checks(races));
+        rows.extend(self.in_utf8(races));
         Ok(rows)
     }
 
@@ -282,6 +283,45 @@ impl<'a> Bench<'a> {
             self.row("list", repeats, [ours, plain, icu, glibc]),
             self.row("list, theirs with a vector for each key", repeats, [ours, by_own, None, None]),
             self.row("list, theirs without keys", repeats, [ours, by_comparing, icu_by_comparing, None]),
+        ]
+    }
+
+    // Ours of names in UTF-8 beside ours of bytes, where both read the same letters. Reading the names once beforehand, which
+    // finds out whether they are names, is left out of comparing and finding, and is part of checking.
+    fn in_utf8(&self, races: &mut Races) -> Vec<Row> {
+        let Bench { numbers, names, places, asks, .. } = self;
+        if !names.text.is_ascii() {
+            return Vec::new();
+        }
+        let wide = numbers.in_utf8();
+        let repeats = self.repeats();
+        let none = Texts::of([[0; 0]; 0]);
+        let (mut room, mut wide_room) = (vec![0; 3 * MAX_NAME + 2], vec![0; 3 * MAX_NAME + 2]);
+        let (mut list, mut wide_list) = (vec![0; names.len()], vec![0; names.len()]);
+        let jobs = [
+            job(repeats, || ours::keys(&wide, names, &mut wide_room)),
+            job(repeats, || ours::keys(numbers, names, &mut room)),
+            job(repeats, || ours::compares(&wide, names, places)),
+            job(repeats, || ours::compares(numbers, names, places)),
+            job(repeats, || ours::compares(&wide, names, &[])),
+            job(repeats, || ours::compares(numbers, names, &[])),
+            job(1, || ours::finds(&wide, names, places, asks)),
+            job(1, || ours::finds(&wide, names, places, &none)),
+            job(1, || ours::finds(numbers, names, places, asks)),
+            job(1, || ours::finds(numbers, names, places, &none)),
+            job(repeats, || ours::list(&wide, names, &mut wide_list).into()),
+            job(repeats, || ours::list(numbers, names, &mut list).into()),
+        ];
+        let [wide_key, key, wide_compare, compare, wide_read, read, wide_find, wide_check, find, check, wide_list, list] =
+            races.race(self.rounds, jobs);
+        let less = |asked: Option<f64>, not: Option<f64>| asked.zip(not).map(|(asked, not)| asked - not);
+        let of_names = repeats * names.len();
+        vec![
+            self.row("key in UTF-8, beside ours of bytes", of_names, [wide_key, key, None, None]),
+            self.row("compare in UTF-8, beside ours of bytes", of_names - repeats, [less(wide_compare, wide_read), less(compare, read), None, None]),
+            self.row("find in UTF-8, beside ours of bytes", asks.len(), [less(wide_find, wide_check), less(find, check), None, None]),
+            self.row("list in UTF-8, beside ours of bytes", repeats, [wide_list, list, None, None]),
+            self.row("check of a list in UTF-8, beside ours of bytes", 1, [wide_check, check, None, None]),
         ]
     }
 

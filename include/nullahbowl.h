@@ -8,8 +8,9 @@
  *   - `room` and `parts` overlap nothing else that is lent (what is only read may).
  * Nothing else is asked of the caller. Whatever the numbers are, they are checked, and what is wrong is answered.
  *
- * A table. A letter is a byte, 0 to 255. `letters` are 768 numbers, three weights for each letter: those of letter x are
- * letters[3 * x], letters[3 * x + 1] and letters[3 * x + 2], on level one, two and three. A weight of 0 does not count on
+ * A table. A letter is a byte, 0 to 255: these functions know nothing of UTF-8. `letters` are 768 numbers, three weights
+ * for each letter: those of letter x are letters[3 * x], letters[3 * x + 1] and letters[3 * x + 2], on level one, two and
+ * three. A weight of 0 does not count on
  * its level. `pairs` are five numbers for each pair of letters that are one together: the two letters, and the three
  * weights that they have together. `how_many` says how many pairs there are, up to 200, no two of the same letters. The
  * numbers are no table, in this order, where
@@ -100,14 +101,14 @@ nullahbowl_part nullahbowl_find(
     const uint32_t *places, size_t places_len,
     const uint8_t *ask, size_t ask_len);
 
-/* What is wrong, the first in this order; of each kind the first place. */
+/* What is wrong, the first as they stand here; of each kind the first place. */
 enum nullahbowl_verdict_what {
     NULLAHBOWL_FINE = 0,           /* nothing; place: 0 */
     NULLAHBOWL_BAD_TABLE = 1,      /* the numbers are no table; place: the pair, or 0 */
     NULLAHBOWL_NO_START = 2,       /* there is no start, not even the end of the text; place: 0 */
     NULLAHBOWL_START_FALLS = 3,    /* a start is before the one in front of it; place: that start */
-    NULLAHBOWL_NAME_TOO_LONG = 4,  /* a name has more than 1,000 letters; place: its number */
     NULLAHBOWL_ENDS_ELSEWHERE = 5, /* the last start is not the end of the text; place: that start */
+    NULLAHBOWL_NAME_TOO_LONG = 4,  /* a name has more than 1,000 letters; place: its number */
     NULLAHBOWL_NO_SUCH_NAME = 6,   /* a number is no name's; place: where in `places` */
     NULLAHBOWL_OUT_OF_ORDER = 7,   /* a name is before the one in front of it; place: where in `places` */
     NULLAHBOWL_BAD_QUESTIONS = 8,  /* questions or their starts are not as names should be; place: as of 2 to 5 */

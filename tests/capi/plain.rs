@@ -92,13 +92,13 @@ pub fn names_verdict(text: &[u8], starts: &[u32]) -> Verdict {
             return Verdict { what: 3, place: place as u64 };
         }
     }
+    if *last as usize != text.len() {
+        return Verdict { what: 5, place: starts.len() as u64 - 1 };
+    }
     for number in 1..starts.len() {
         if starts[number] - starts[number - 1] > MAX_NAME as u32 {
             return Verdict { what: 4, place: number as u64 - 1 };
         }
-    }
-    if *last as usize != text.len() {
-        return Verdict { what: 5, place: starts.len() as u64 - 1 };
     }
     FINE
 }

@@ -157,7 +157,7 @@ static void be_turned_away(void)
     static const uint16_t twice[] = {'c', 'h', 35, 1, 1, 'c', 'h', 40, 1, 1};
     static const uint32_t falling[] = {0, 2, 6, 5, 11, 15, 18, 21};
     static const uint32_t beyond[] = {0, 2, 6, 8, 11, 15, 18, 22};
-    static const uint32_t far[] = {0, 2, 6, 8, 11, 15, 18, 1019};
+    static const uint32_t whole[] = {0, NULLAHBOWL_MAX_NAME + 1};
     static const uint32_t unknown[] = {6, 5, NAMES};
     static const uint32_t turned[] = {6, 5, 4, 3, 2, 0, 1};
     static uint8_t long_name[NULLAHBOWL_MAX_NAME + 1];
@@ -166,7 +166,7 @@ static void be_turned_away(void)
     say("a pair twice", nullahbowl_check(COUNTED(letters), COUNTED(twice), 2, LISTS));
     say("no starts", nullahbowl_check(TABLE, BYTES(text), starts, 0, COUNTED(places)));
     say("starts that fall", nullahbowl_check(TABLE, BYTES(text), COUNTED(falling), COUNTED(places)));
-    say("1,001 letters", nullahbowl_check(TABLE, BYTES(text), COUNTED(far), COUNTED(places)));
+    say("1,001 letters", nullahbowl_check(TABLE, COUNTED(long_name), COUNTED(whole), places, 0));
     say("an end behind the text", nullahbowl_check(TABLE, BYTES(text), COUNTED(beyond), COUNTED(places)));
     say("an eighth of seven names", nullahbowl_check(TABLE, BYTES(text), COUNTED(starts), COUNTED(unknown)));
     say("chad behind da", nullahbowl_check(TABLE, BYTES(text), COUNTED(starts), COUNTED(turned)));

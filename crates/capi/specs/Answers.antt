@@ -7,7 +7,7 @@ use Rattle.capi.specs.declared.answer.Verdict.{Verdict}
 use Rattle.catalogue.specs.Finding.{FoundAt, may_ask}
 use Rattle.catalogue.specs.Lists.{Lists, fault_place, name_of, names_fault, places_fault}
 use Rattle.catalogue.specs.declared.fault.ListFault.{ListFault}
-use Rattle.catalogue.specs.declared.fault.ListFault.TheVariants.{NoStart, StartFalls, NameTooLong, EndsElsewhere, NoSuchName, OutOfOrder}
+use Rattle.catalogue.specs.declared.fault.ListFault.TheVariants.{NoStart, StartFalls, EndsElsewhere, NameRefused, NoSuchName, OutOfOrder}
 use Rattle.keys.specs.Entry.{KeySays, done_of}
 use Rattle.keys.specs.declared.entry.Done.{Done}
 use Rattle.keys.specs.declared.entry.Done.TheVariants.{Keyed, Short, Refused}
@@ -34,12 +34,12 @@ right = record { what = 0; place = 0 }
 abbrev pub table_verdict : Refusal → Verdict
 table_verdict why = record { what = 1; place = refusal_place why }
 
--- the faults of lists are 2 to 7, in the order in which they are looked for
+-- the faults of lists are 2 to 7
 abbrev pub fault_number : ListFault → ℕ
 fault_number NoStart = 2
 fault_number (StartFalls k) = 3
-fault_number (NameTooLong i n) = 4
 fault_number (EndsElsewhere k) = 5
+fault_number (NameRefused i why) = 4
 fault_number (NoSuchName k) = 6
 fault_number (OutOfOrder k) = 7
 
@@ -48,7 +48,7 @@ list_verdict why = record { what = fault_number why; place = fault_place why }
 
 -- the first fault of lists; None where they are a catalogue
 abbrev pub fault_in : Lists → Option ListFault
-fault_in l = option_or (names_fault l.text l.starts) (places_fault l)
+fault_in l = option_or (names_fault l.rules.utf8 l.text l.starts) (places_fault l)
 
 -- the table is looked at first, then the lists
 abbrev pub verdict_of : Option Refusal → Option ListFault → Verdict
@@ -70,7 +70,7 @@ each_verdict None None g n parts = asked_verdict g n parts
 
 -- where the names are that begin as a question asks
 abbrev pub Answers : Lists → (ask : List ℕ) → Part → Type 0
-Answers l ask p = FoundAt (may_ask ask) l ask p.place (p.place + p.length)
+Answers l ask p = FoundAt (may_ask l ask) l ask p.place (p.place + p.length)
 
 -- where nothing is wrong each part is that of its question; else the parts are as they were
 abbrev pub PartsSay : (what : ℕ) → Lists → (asks ask_starts : List ℕ) → (parts after : List Part) → Type 0

@@ -97,8 +97,8 @@ impl From<ListFault> for Verdict {
         let what = match why {
             ListFault::NoStart => 2,
             ListFault::StartFalls(_) => 3,
-            ListFault::NameTooLong(..) => 4,
             ListFault::EndsElsewhere(_) => 5,
+            ListFault::NameRefused(..) => 4,
             ListFault::NoSuchName(_) => 6,
             ListFault::OutOfOrder(_) => 7,
         };

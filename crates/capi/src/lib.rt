@@ -5,7 +5,7 @@
 // pointers. Answers are plain numbers (answer).
 #![tactic(auto)]
 
-ghost use Rattle.std.specs.Prelude.{◌≡◌, ◌+◌, ◌-◌, ◌^◌, ◌<◌, length, slice_range};
+ghost use Rattle.std.specs.Prelude.{◌≡◌, ◌+◌, ◌-◌, ◌^◌, ◌<◌, false, length, slice_range};
 ghost use Rattle.capi.specs.Answers.{ExactlyKeyed, PartsSay, each_verdict, fault_in, verdict_of};
 ghost use Rattle.catalogue.specs.Checking.{lists_of};
 ghost use Rattle.catalogue.specs.Entry.{FindSays, all_right};
@@ -109,7 +109,7 @@ pub extern "C" fn nullahbowl_find_each(
     ask_starts: &[u32],
     parts: &mut [Part],
 ) -> Verdict
-    ensures verdict { result ≡ each_verdict (refusal_of letters.now pairs.now how_many) (fault_in (lists (rules_in letters.now pairs.now how_many) text.now starts.now places.now)) (names_fault asks.now ask_starts.now) (length ask_starts.now - 1) (length parts.old) }
+    ensures verdict { result ≡ each_verdict (refusal_of letters.now pairs.now how_many) (fault_in (lists (rules_in letters.now pairs.now how_many) text.now starts.now places.now)) (names_fault false asks.now ask_starts.now) (length ask_starts.now - 1) (length parts.old) }
     ensures parts { PartsSay result.what (lists (rules_in letters.now pairs.now how_many) text.now starts.now places.now) asks.now ask_starts.now parts.old parts.new }
 {
     let table = match Table::check(letters, pairs, how_many) {
@@ -120,7 +120,7 @@ pub extern "C" fn nullahbowl_find_each(
         Ok(catalogue) => catalogue,
         Err(why) => return Verdict::from(why),
     };
-    let questions = match Names::check(asks, ask_starts) {
+    let questions = match Names::check(&table, asks, ask_starts) {
         Ok(questions) => questions,
         Err(why) => return Verdict::of(8, why.place()),
     };

@@ -16,6 +16,6 @@ finds_in right l ask from to f =
     (p, through right l ask (slice_range l.places from to) p)
 
 pub finds_under : (t : Table) (text starts places : List ℕ) (c : Catalogue) (ask : List ℕ) (from to : ℕ) →
-    ListsChecked t text starts places (Ok c) → FoundAt (may_ask ask) (lists_of c) ask from to →
+    ListsChecked t text starts places (Ok c) → FoundAt (may_ask (lists_of c) ask) (lists_of c) ask from to →
     FindsUnder (lists (rules_of t) text starts places) ask (slice_range places from to)
-finds_under t text starts places c ask from to e f = rw (e.4, e.5) (rw (e.0, e.1, e.2, e.3) at (finds_in (may_ask ask) (lists_of c) ask from to f))
+finds_under t text starts places c ask from to e f = rw (e.4, e.5) (rw (e.0, e.1, e.2, e.3) at (finds_in (may_ask (lists_of c) ask) (lists_of c) ask from to f))

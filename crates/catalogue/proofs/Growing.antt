@@ -1,13 +1,14 @@
 -- One name more, behind the others.
-use Rattle.std.proofs.Common.{◌≡◌, ℕ, zero, suc, ◌+◌, ◌-◌, ◌<◌, ◌≤◌, ⊎_elim, None, List, [], ◌∷◌, ◌++◌, length, slice_index_or, map, take, drop, refl, sym, ap, ap₂, ◌∙◌, arith}
+use Rattle.std.proofs.Common.{◌≡◌, ℕ, zero, suc, ◌+◌, ◌-◌, ◌<◌, ◌≤◌, ⊎_elim, Bool, None, List, [], ◌∷◌, ◌++◌, length, slice_index_or, map, take, drop, refl, subst, sym, ap, ap₂, ◌∙◌, arith}
 use Rattle.std.proofs.lemmas.Bool.{cases_lt}
 use Rattle.std.proofs.lemmas.List.{get_or_append_left, length-append, drop-append-le, take-append-le, length-drop, take_all}
 use Rattle.std.proofs.lemmas.List.FromFn.{map-range_with_len_more}
 use Rattle.std.proofs.Math.Seq.{get_or-append_seam, drop-append_seam}
 use Rattle.std.specs.List.{range_with_len}
 use Rattle.catalogue.proofs.Listing.{within}
-use Rattle.catalogue.proofs.Plain.{are_names, sound_names}
-use Rattle.catalogue.specs.Laws.{AreNames}
+use Rattle.catalogue.proofs.Plain.{are_names, sound_names, taken_is}
+use Rattle.keys.specs.Refusals.{name_refusal}
+use Rattle.catalogue.specs.Laws.{AreNames, IsName}
 use Rattle.catalogue.specs.Lists.{name_of, names_fault}
 
 -- two maps that are the same below m
@@ -18,9 +19,9 @@ same_map f g (suc m) h =
     let more : (e : ℕ → List ℕ) → map e (range_with_len 0 (suc m)) ≡ map e (range_with_len 0 m) ++ e m ∷ [] = λ e. ap (λ j. map e (range_with_len 0 j)) k ∙ map-range_with_len_more e 0 m m (omega arith) in
     more f ∙ (ap₂ (λ xs x. xs ++ x ∷ []) (same_map f g m (λ i l. h i (omega arith))) (h m (omega arith)) ∙ sym (more g))
 
-module _ (text starts n : List ℕ) (e : names_fault text starts ≡ None) (l : length n ≤ 1000) where
-  a : AreNames text starts
-  a = are_names text starts e
+module _ (u : Bool) (text starts n : List ℕ) (e : names_fault u text starts ≡ None) where
+  a : AreNames u text starts
+  a = are_names u text starts e
 
   abbrev starts_more : List ℕ
   starts_more = starts ++ (length text + length n) ∷ []
@@ -39,38 +40,11 @@ module _ (text starts n : List ℕ) (e : names_fault text starts ≡ None) (l : 
       (λ (b : i + 1 < length starts). let r = a.none_falls i b in let p = start_before i (omega arith) in let q = start_before (i + 1) b in omega arith)
       (λ (b : length starts ≤ i + 1).
       let m = as_many in
-      let r = within text starts e i (omega arith) in
+      let r = within u text starts e i (omega arith) in
       let p = start_before i (omega arith) in
       let q = start_behind (i + 1) (omega arith) in
       omega arith)
       (cases_lt (i + 1) (length starts))
-
-  letters_more : (i : ℕ) → i + 1 < length starts_more → slice_index_or starts_more (i + 1) 0 ≤ slice_index_or starts_more i 0 + 1000
-  letters_more i h = ⊎_elim
-      (λ (b : i + 1 < length starts).
-      let f = a.none_too_long i b in
-      let p = start_before i (omega arith) in
-      let q = start_before (i + 1) b in
-      omega arith)
-      (λ (b : length starts ≤ i + 1).
-      let m = as_many in
-      let g = a.some in
-      let k : i ≡ length starts - 1 = omega arith in
-      let p = start_before i (omega arith) ∙ ap (λ k. slice_index_or starts k 0) k ∙ a.ends in
-      let q = start_behind (i + 1) (omega arith) in
-      omega arith)
-      (cases_lt (i + 1) (length starts))
-
-  pub sound_more : names_fault (text ++ n) (starts ++ (length text + length n) ∷ []) ≡ None
-  sound_more =
-      let m = as_many in
-      let g = a.some in
-      sound_names (text ++ n) starts_more (record {
-        some = omega arith;
-        none_falls = start_rises;
-        none_too_long = letters_more;
-        ends = start_behind (length starts_more - 1) (omega arith) ∙ sym (length-append text n);
-      })
 
   -- its name and those before it
   name_before_it : (i : ℕ) → i + 1 < length starts → name_of (text ++ n) starts_more i ≡ name_of text starts i
@@ -78,7 +52,7 @@ module _ (text starts n : List ℕ) (e : names_fault text starts ≡ None) (l : 
       let p = start_before i (omega arith) in
       let q = start_before (i + 1) h in
       let r = a.none_falls i h in
-      let w = within text starts e (i + 1) h in
+      let w = within u text starts e (i + 1) h in
       let a = slice_index_or starts i 0 in
       let b = slice_index_or starts (i + 1) 0 in
       let f : drop a (text ++ n) ≡ drop a text ++ n = drop-append-le a text n (omega arith) in
@@ -93,6 +67,20 @@ module _ (text starts n : List ℕ) (e : names_fault text starts ≡ None) (l : 
       let q : slice_index_or starts_more (i + 1) 0 ≡ length text + length n = start_behind (i + 1) h in
       let d : length text + length n - length text ≡ length n = omega arith in
       rw (p, q, d, drop-append_seam text n) (take_all (length n) n (omega arith))
+
+  pub sound_more : name_refusal u n ≡ None → names_fault u (text ++ n) (starts ++ (length text + length n) ∷ []) ≡ None
+  sound_more l =
+      let m = as_many in
+      let g = a.some in
+      sound_names u (text ++ n) starts_more (record {
+        some = omega arith;
+        none_falls = start_rises;
+        ends = start_behind (length starts_more - 1) (omega arith) ∙ sym (length-append text n);
+        names = λ k b. ⊎_elim
+            (λ (h : k + 1 < length starts). subst (IsName u) (sym (name_before_it k h)) (a.names k (omega arith)))
+            (λ (h : length starts ≤ k + 1). subst (IsName u) (sym (name_itself k (omega arith))) (taken_is u n l))
+            (cases_lt (k + 1) (length starts));
+      })
 
   pub names_more : map (name_of (text ++ n) starts_more) (range_with_len 0 (length starts_more - 1)) ≡ map (name_of text starts) (range_with_len 0 (length starts - 1)) ++ n ∷ []
   names_more =

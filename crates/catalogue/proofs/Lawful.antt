@@ -22,18 +22,18 @@ all_pass test t (x ∷ xs) = rw (t x, all_pass test t xs)
 pub all_begin : AllBegin
 all_begin l ask e = all_pass (begins_so l ask) (λ i. rw e) l.places
 
-module _ (text starts : List ℕ) (e : names_fault text starts ≡ None) where
+module _ (u : Bool) (text starts : List ℕ) (e : names_fault u text starts ≡ None) where
   -- from any start on
   tiled_from : (n i : ℕ) → i + n + 1 ≡ length starts → concat (map (name_of text starts) (range_with_len i n)) ≡ drop (slice_index_or starts i 0) text
   tiled_from zero i h =
       let k : i ≡ length starts - 1 = omega arith in
-      sym (drop_all (slice_index_or starts i 0) text (let s = (sound text starts e).ends in grind arith))
+      sym (drop_all (slice_index_or starts i 0) text (let s = (sound u text starts e).ends in grind arith))
   tiled_from (suc n) i h =
       ap (λ xs. name_of text starts i ++ xs) (tiled_from n (i + 1) (omega arith))
-      ∙ sym (drop_split text (slice_index_or starts i 0) (slice_index_or starts (i + 1) 0) (rises text starts e i (omega arith)))
+      ∙ sym (drop_split text (slice_index_or starts i 0) (slice_index_or starts (i + 1) 0) (rises u text starts e i (omega arith)))
 
 pub tiled : Tiled
-tiled text starts e = let b = begun text starts e in tiled_from text starts e (length starts - 1) 0 (omega arith)
+tiled u text starts e = let b = begun u text starts e in tiled_from u text starts e (length starts - 1) 0 (omega arith)
 
 -- where numbers that don't fall go past a bound
 module _ (f : ℕ → ℕ) (n : ℕ) (up : (i j : ℕ) → i ≤ j → j < n → f i ≤ f j) (bound : ℕ) where

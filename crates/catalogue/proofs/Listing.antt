@@ -1,65 +1,133 @@
 -- What the check of lists finds.
-use Rattle.std.proofs.Common.{Option, MatchOption, nat_lt, nat_le, ◌&&◌, [], ◌∷◌, ◌∙◌, ◌≡◌, ℕ, zero, suc, ◌+◌, ◌-◌, ◌<◌, ◌≤◌, Bool, true, false, None, Some, length, drop, slice_index_or, List, refl, sym, add-one, arith}
-use Rattle.std.proofs.lemmas.Bool.{eq-eqb, ne_eqb, true≢false}
+use Rattle.std.proofs.Common.{Option, MatchOption, nat_lt, nat_le, ◌&&◌, [], ◌∷◌, ◌∙◌, ◌≡◌, ℕ, zero, suc, ◌+◌, ◌-◌, ◌<◌, ◌≤◌, Bool, true, false, None, Some, length, slice_index_or, List, refl, sym, ⊎_elim, add-one, arith}
+use Rattle.std.proofs.lemmas.Bool.{cases_lt, eq-eqb, ne_eqb, true≢false}
 use Rattle.std.proofs.lemmas.Bool.Decides.{nat_tests}
-use Rattle.std.proofs.lemmas.List.{length-take}
-use Rattle.table.proofs.Firsts.{first_below, first_is, looked_through, none_at, none_more}
+use Rattle.table.proofs.Firsts.{first_is, looked_through, none_at, none_more}
 use Rattle.table.specs.Refusals.{first_place}
 use Rattle.table.specs.Rules.{Rules}
 use Rattle.catalogue.specs.Arranging.{Arranged}
-use Rattle.catalogue.specs.Lists.{Lists, falls, letters_of, lists, name_at, name_of, names_fault, no_such_name, out_of_order, places_fault, too_long}
+use Rattle.catalogue.specs.Lists.{Lists, falls, first_refused, lists, name_at, name_of, names_fault, no_such_name, out_of_order, places_fault, starts_fault}
+use Rattle.catalogue.specs.declared.fault.ListFault.{ListFault}
+use Rattle.catalogue.specs.declared.fault.ListFault.TheVariants.{NameRefused}
+use Rattle.keys.specs.Refusals.{name_refusal}
+use Rattle.keys.specs.declared.fault.NameRefusal.{NameRefusal}
+use Rattle.std.specs.Option.{option_map, option_or}
+use Rattle.std.proofs.lemmas.Option.{none-some}
 use Rattle.order.specs.Names.{name_order}
 use Rattle.std.specs.List.{AllWithin, HoldsAt}
 use Rattle.std.specs.Ordering.{is_lt}
 
--- nothing is wrong: each part of the check finds nothing
+-- nothing is wrong with the starts: each part of the check finds nothing
 pub record Sound (text starts : List ℕ) : Type 0 where
   pub some : 0 < length starts
   pub none_falls : first_place (falls starts) (length starts) ≡ None
-  pub none_too_long : first_place (too_long starts) (length starts - 1) ≡ None
   pub ends : slice_index_or starts (length starts - 1) 0 ≡ length text
 
-pub sound : (text starts : List ℕ) → names_fault text starts ≡ None → Sound text starts
-unfolding names_fault
-sound text starts e = record {
+pub sound_starts : (text starts : List ℕ) → starts_fault text starts ≡ None → Sound text starts
+unfolding starts_fault
+sound_starts text starts e = record {
   some = grind (arith, nat_tests);
   none_falls = grind (arith, nat_tests);
-  none_too_long = grind (arith, nat_tests);
   ends = grind (arith, nat_tests);
 }
 
-pub nothing_wrong : (text starts : List ℕ) → Sound text starts → names_fault text starts ≡ None
-unfolding names_fault
-nothing_wrong text starts s =
+pub starts_right : (text starts : List ℕ) → Sound text starts → starts_fault text starts ≡ None
+unfolding starts_fault
+starts_right text starts s =
     let a = s.some in
-    rw (ne_eqb (length starts) 0 (omega arith), s.none_falls, s.none_too_long, eq-eqb (slice_index_or starts (length starts - 1) 0) (length text) s.ends)
+    rw (ne_eqb (length starts) 0 (omega arith), s.none_falls, eq-eqb (slice_index_or starts (length starts - 1) 0) (length text) s.ends)
 
-module _ (text starts : List ℕ) (e : names_fault text starts ≡ None) where
-  pub begun : 0 < length starts
-  begun = (sound text starts e).some
+-- and with the names
+pub both_none : (o p : Option ListFault) → option_or o p ≡ None → (o ≡ None) × (p ≡ None)
+both_none None p e = (refl, e)
+both_none (Some x) p e = absurd (none-some x (sym e))
 
-  pub rises : (i : ℕ) → i + 1 < length starts → slice_index_or starts i 0 ≤ slice_index_or starts (i + 1) 0
-  rises i l = let f = none_at (falls starts) (length starts) (sound text starts e).none_falls (i + 1) l in grind (arith, nat_tests)
+module _ (u : Bool) (text starts : List ℕ) (e : names_fault u text starts ≡ None) where
+  pub parts : (starts_fault text starts ≡ None) × (first_refused u text starts (length starts - 1) ≡ None)
+  unfolding names_fault
+  parts = both_none (starts_fault text starts) (first_refused u text starts (length starts - 1)) e
+
+  pub sound : Sound text starts
+  sound = sound_starts text starts parts.0
+
+pub nothing_wrong : (u : Bool) (text starts : List ℕ) → starts_fault text starts ≡ None → first_refused u text starts (length starts - 1) ≡ None → names_fault u text starts ≡ None
+unfolding names_fault
+nothing_wrong u text starts a b = rw (a, b)
+
+-- the first name that is turned away
+module _ (u : Bool) (text starts : List ℕ) where
+  pub none_refused : (n : ℕ) → n ≡ 0 → first_refused u text starts n ≡ None
+  unfolding first_refused
+  none_refused zero e = refl
+  none_refused (suc n) e = absurd (omega arith)
+
+  pub not_refused : (k : ℕ) → first_refused u text starts k ≡ None → name_refusal u (name_of text starts k) ≡ None → first_refused u text starts (k + 1) ≡ None
+  unfolding first_refused
+  not_refused k e f = rw (add-one, e, f)
+
+  pub is_refused : (k : ℕ) (why : NameRefusal) → first_refused u text starts k ≡ None → name_refusal u (name_of text starts k) ≡ Some why → (n : ℕ) → k < n → first_refused u text starts n ≡ Some (NameRefused k why)
+  unfolding first_refused
+  is_refused k why e f zero l = absurd (omega arith)
+  is_refused k why e f (suc n) l =
+      ⊎_elim
+      (λ m. let ih = is_refused k why e f n m in rw ih)
+      (λ m. let q : n ≡ k = omega (arith, l, m) in rw (q, e, f))
+      (cases_lt k n)
+
+  pub taken_below : (n : ℕ) → first_refused u text starts n ≡ None → (k : ℕ) → k < n → name_refusal u (name_of text starts k) ≡ None
+  unfolding first_refused
+  taken_below zero e k l = absurd (omega arith)
+  taken_below (suc n) e k l =
+      let b = both_none (first_refused u text starts n) (option_map (NameRefused n) (name_refusal u (name_of text starts n))) e in
+      ⊎_elim
+      (λ m. taken_below n b.0 k m)
+      (λ m. let q : k ≡ n = omega (arith, l, m) in rw q (not_mapped (name_refusal u (name_of text starts n)) b.1))
+      (cases_lt k n)
+    where
+      not_mapped : (o : Option NameRefusal) → option_map (NameRefused n) o ≡ None → o ≡ None
+      not_mapped None e = refl
+      not_mapped (Some x) e = absurd (none-some _ (sym e))
+
+  pub all_taken : (n : ℕ) → ((k : ℕ) → k < n → name_refusal u (name_of text starts k) ≡ None) → first_refused u text starts n ≡ None
+  unfolding first_refused
+  all_taken zero h = refl
+  all_taken (suc n) h = let ih = all_taken n (λ k l. h k (omega arith)) in let e = h n (omega arith) in rw (ih, e)
+
+module _ (text starts : List ℕ) (s : Sound text starts) where
+  rise : (i : ℕ) → i + 1 < length starts → slice_index_or starts i 0 ≤ slice_index_or starts (i + 1) 0
+  rise i l = let f = none_at (falls starts) (length starts) s.none_falls (i + 1) l in grind (arith, nat_tests)
 
   -- no start is before an earlier one
   rises_to : (k i : ℕ) → i + k < length starts → slice_index_or starts i 0 ≤ slice_index_or starts (i + k) 0
   rises_to zero i l = grind arith
-  rises_to (suc k) i l = let ih = rises_to k i (omega arith) in let s = rises (i + k) (omega arith) in grind (arith, add-one)
+  rises_to (suc k) i l = let ih = rises_to k i (omega arith) in let s = rise (i + k) (omega arith) in grind (arith, add-one)
 
-  pub within : (i : ℕ) → i < length starts → slice_index_or starts i 0 ≤ length text
-  within i l =
-      let s = (sound text starts e).ends in
+  stays : (i : ℕ) → i < length starts → slice_index_or starts i 0 ≤ length text
+  stays i l =
+      let e = s.ends in
       let r = rises_to (length starts - 1 - i) i (omega arith) in
       let n : i + (length starts - 1 - i) ≡ length starts - 1 = omega arith in
       grind arith
 
-  -- no name is too long
-  pub short : (i : ℕ) → i + 1 < length starts → length (name_of text starts i) ≤ 1000
-  short i l =
-      let f = none_at (too_long starts) (length starts - 1) (sound text starts e).none_too_long i (omega arith) in
-      let g : letters_of starts i ≤ 1000 = grind (arith, nat_tests) in
-      let t = length-take (letters_of starts i) (drop (slice_index_or starts i 0) text) in
-      omega (arith, g, t)
+module _ (text starts : List ℕ) (e : starts_fault text starts ≡ None) where
+  pub start_rises : (i : ℕ) → i + 1 < length starts → slice_index_or starts i 0 ≤ slice_index_or starts (i + 1) 0
+  start_rises = rise text starts (sound_starts text starts e)
+
+  pub start_within : (i : ℕ) → i < length starts → slice_index_or starts i 0 ≤ length text
+  start_within = stays text starts (sound_starts text starts e)
+
+  pub one_start : 0 < length starts
+  one_start = (sound_starts text starts e).some
+
+module _ (u : Bool) (text starts : List ℕ) (e : names_fault u text starts ≡ None) where
+  pub begun : 0 < length starts
+  begun = (sound u text starts e).some
+
+  pub rises : (i : ℕ) → i + 1 < length starts → slice_index_or starts i 0 ≤ slice_index_or starts (i + 1) 0
+  rises = rise text starts (sound u text starts e)
+
+  pub within : (i : ℕ) → i < length starts → slice_index_or starts i 0 ≤ length text
+  within = stays text starts (sound u text starts e)
 
 -- a test that the first place can't pass, since none is in front of it, tried at one place after the other
 module _ (p : ℕ → Bool) where
@@ -105,9 +173,6 @@ pub unknown_found : (starts places : List ℕ) (r : Option ℕ) →
 unknown_found starts places None h = looked_through (no_such_name starts places) (length places) None (λ k g l. h k 0 g l)
 unknown_found starts places (Some i) h = looked_through (no_such_name starts places) (length places) (Some i) (omega arith, h.0, h.1 0, λ k g l. h.2 k 0 g l)
 
-pub long_below : (starts : List ℕ) (k : ℕ) → Some k ≡ first_place (too_long starts) (length starts - 1) → k + 1 < length starts
-long_below starts k e = let l = first_below (too_long starts) (length starts - 1) k (sym e) in omega arith
-
 -- where no number is unknown, that at a place is a name's
 pub known_at : (starts places : List ℕ) → first_place (no_such_name starts places) (length places) ≡ None → (k : ℕ) → k < length places → slice_index_or places k 0 + 1 < length starts
 known_at starts places e k l = let f = none_at (no_such_name starts places) (length places) e k l in grind (arith, nat_tests)
@@ -118,12 +183,12 @@ unfolding places_fault first_place
 none_listed l e = rw e
 
 -- no names
-pub none_sound : (text starts : List ℕ) → text ≡ [] → starts ≡ 0 ∷ [] → names_fault text starts ≡ None
-unfolding names_fault first_place
-none_sound text starts e f = rw (e, f)
+pub none_sound : (u : Bool) (text starts : List ℕ) → text ≡ [] → starts ≡ 0 ∷ [] → names_fault u text starts ≡ None
+unfolding names_fault starts_fault first_refused first_place
+none_sound u text starts e f = rw (e, f)
 
-pub same_sound : (text starts text' starts' : List ℕ) → names_fault text starts ≡ None → text' ≡ text → starts' ≡ starts → names_fault text' starts' ≡ None
-same_sound text starts text' starts' s e f = rw (e, f) s
+pub same_sound : (u v : Bool) (text starts text' starts' : List ℕ) → names_fault u text starts ≡ None → v ≡ u → text' ≡ text → starts' ≡ starts → names_fault v text' starts' ≡ None
+same_sound u v text starts text' starts' s d e f = rw (d, e, f) s
 
 -- the same list of the same names
 module _ (t u : Rules) (text starts text' starts' places : List ℕ) (d : u ≡ t) (e : text' ≡ text) (f : starts' ≡ starts) where

@@ -4,20 +4,21 @@ use Rattle.std.specs.List.{range_with_len}
 use Rattle.std.specs.declared.alloc.AllocError.{AllocError}
 use Rattle.catalogue.specs.Arranging.{Arranged}
 use Rattle.catalogue.specs.Checking.{lists_of}
-use Rattle.catalogue.specs.Lists.{lists, name_of}
+use Rattle.catalogue.specs.Lists.{lists, name_of, names_fault}
 use Rattle.catalogue.specs.declared.buffer.CatalogueBuf.{CatalogueBuf}
+use Rattle.catalogue.specs.declared.fault.ListFault.{ListFault}
 use Rattle.catalogue.specs.declared.fault.NotTaken.{NotTaken}
 use Rattle.catalogue.specs.declared.fault.NotTaken.TheVariants.{Name, Full}
 use Rattle.catalogue.specs.declared.view.Catalogue.{Catalogue}
 use Rattle.keys.specs.Refusals.{name_refusal}
-use Rattle.table.specs.Buffer.{Added, buffer_pairs, buffer_rules, pair_refusal}
-use Rattle.table.specs.Rules.{Rules, with_letter}
+use Rattle.table.specs.Buffer.{Added, LetterAdded, buffer_letters, buffer_pairs, buffer_rules, letter_refusal, pair_refusal}
+use Rattle.table.specs.Rules.{Rules}
 use Rattle.table.specs.declared.buffer.TableBuf.{TableBuf}
 use Rattle.table.specs.declared.fault.Failure.{Failure}
 use Rattle.table.specs.declared.fault.Failure.TheVariants.{NoMemory, Refused}
 use Rattle.table.specs.declared.fault.Refusal.{Refusal}
+use Rattle.table.specs.declared.piece.Letter.{Letter}
 use Rattle.table.specs.declared.piece.Pair.{Pair}
-use Rattle.table.specs.declared.piece.Weights.{Weights}
 
 -- all names, one behind the other, and where each begins, with the end behind
 abbrev pub held_text : CatalogueBuf → List ℕ
@@ -67,10 +68,10 @@ TooMuch b n = (2 ^ 32 ≤ length (held_text b) + length n) ⊎ (2 ^ 32 ≤ lengt
 -- A name that is taken stands behind the others, and begins where they end. What is turned away changes nothing; where memory
 -- is wanting table, names and list are as they were.
 abbrev pub Pushed : CatalogueBuf → (name : List ℕ) → Result Unit (Failure NotTaken) → CatalogueBuf → Type 0
-Pushed b n (Ok x) c = (name_refusal n ≡ None) × (TooMuch b n → ⊥) × Appended b n (Ok tt) c
-Pushed b n (Err (Refused (Name why))) c = (name_refusal n ≡ Some why) × (c ≡ b)
-Pushed b n (Err (Refused Full)) c = (name_refusal n ≡ None) × TooMuch b n × (c ≡ b)
-Pushed b n (Err NoMemory) c = (name_refusal n ≡ None) × (TooMuch b n → ⊥) × (c.table ≡ b.table) × Kept b c
+Pushed b n (Ok x) c = (name_refusal (held_rules b).utf8 n ≡ None) × (TooMuch b n → ⊥) × Appended b n (Ok tt) c
+Pushed b n (Err (Refused (Name why))) c = (name_refusal (held_rules b).utf8 n ≡ Some why) × (c ≡ b)
+Pushed b n (Err (Refused Full)) c = (name_refusal (held_rules b).utf8 n ≡ None) × TooMuch b n × (c ≡ b)
+Pushed b n (Err NoMemory) c = (name_refusal (held_rules b).utf8 n ≡ None) × (TooMuch b n → ⊥) × (c.table ≡ b.table) × Kept b c
 
 -- another table, and the same names
 pub record TableSet (b : CatalogueBuf) (t : TableBuf) (c : CatalogueBuf) : Type 0 where
@@ -78,12 +79,18 @@ pub record TableSet (b : CatalogueBuf) (t : TableBuf) (c : CatalogueBuf) : Type 
   pub names : SameNames b c
   pub arranged : c.arranged ≡ false
 
--- a letter weighs what is set; the rest is the same
-pub record LetterSet (b : CatalogueBuf) (letter : ℕ) (w : Weights) (c : CatalogueBuf) : Type 0 where
-  pub rules : held_rules c ≡ with_letter (held_rules b) letter w
-  pub pairs : buffer_pairs c.table ≡ buffer_pairs b.table
-  pub names : SameNames b c
-  pub arranged : c.arranged ≡ false
+-- Another table stands in place of this one, if the names are names under it too; else it is told what is wrong with them, and
+-- nothing changes.
+abbrev pub TablePut : CatalogueBuf → TableBuf → Result Unit ListFault → CatalogueBuf → Type 0
+TablePut b t (Ok x) c = (names_fault t.utf8 (held_text b) (held_starts b) ≡ None) × TableSet b t c
+TablePut b t (Err why) c = (names_fault t.utf8 (held_text b) (held_starts b) ≡ Some why) × (c ≡ b)
+
+-- A letter is added as the table says, and the names are the same. What is turned away changes nothing; where memory is wanting
+-- names and list are as they were, and so is what the table says.
+abbrev pub LetterPut : CatalogueBuf → Letter → Result Unit (Failure Refusal) → CatalogueBuf → Type 0
+LetterPut b e (Ok x) c = LetterAdded b.table e (Ok tt) c.table × SameNames b c × (c.arranged ≡ false)
+LetterPut b e (Err (Refused why)) c = (letter_refusal (held_rules b) (buffer_letters b.table) e ≡ Some why) × (c ≡ b)
+LetterPut b e (Err NoMemory) c = LetterAdded b.table e (Err NoMemory) c.table × Kept b c
 
 -- A pair is added as the table says, and the names are the same. What is turned away changes nothing; where memory is wanting
 -- names and list are as they were, and so is what the table says.

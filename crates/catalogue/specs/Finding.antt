@@ -28,9 +28,9 @@ abbrev pub PartFound : Lists → (ask part : List ℕ) → Type 0
 PartFound l ask part =
     (from : ℕ) × PlacesFound l ask from (from + length part) × (part ≡ slice_range l.places from (from + length part))
 
--- what is asked has at most 1,000 letters
-abbrev pub may_ask : List ℕ → Bool
-may_ask ask = is_none (name_refusal ask)
+-- what is asked is a name: it can be read, and has at most 1,000 letters
+abbrev pub may_ask : Lists → (ask : List ℕ) → Bool
+may_ask l ask = is_none (name_refusal l.rules.utf8 ask)
 
 -- where all is as it should be, the part that begins so is handed back; else a part of none
 abbrev pub Found : Bool → Lists → (ask part : List ℕ) → Type 0

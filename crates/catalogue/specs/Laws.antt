@@ -1,11 +1,13 @@
 -- What is promised of lists, and of what is found in them.
-use Rattle.std.specs.Prelude.{◌≡◌, ℕ, ◌+◌, ◌-◌, ◌<◌, ◌≤◌, true, false, List, [], Some, None, filter, length, map, slice_index_or, drop}
+use Rattle.std.specs.Prelude.{◌≡◌, ℕ, ◌+◌, ◌-◌, ◌<◌, ◌≤◌, Bool, true, false, List, [], Some, None, filter, length, map, slice_index_or, drop}
 use Rattle.std.specs.List.{concat, range_with_len}
 use Rattle.catalogue.specs.Arranging.{Arranged}
 use Rattle.catalogue.specs.Finding.{PartFound, begins_so}
 use Rattle.catalogue.specs.Lists.{Lists, lists, name_at, name_of, names_fault, places_fault}
 use Rattle.catalogue.specs.declared.fault.ListFault.{ListFault}
-use Rattle.catalogue.specs.declared.fault.ListFault.TheVariants.{NoStart, StartFalls, NameTooLong, EndsElsewhere, NoSuchName, OutOfOrder}
+use Rattle.catalogue.specs.declared.fault.ListFault.TheVariants.{NoStart, StartFalls, EndsElsewhere, NameRefused, NoSuchName, OutOfOrder}
+use Rattle.keys.specs.Letters.{letters_in, unread_in}
+use Rattle.keys.specs.Refusals.{name_refusal}
 use Rattle.keys.specs.Rows.{row}
 use Rattle.keys.specs.declared.level.Level.TheVariants.{Primary}
 use Rattle.order.specs.Laws.{InOrder}
@@ -18,41 +20,46 @@ use Rattle.table.specs.Rules.{Rules}
 abbrev pub NoneFalls : (starts : List ℕ) → (many : ℕ) → Type 0
 NoneFalls starts n = (k : ℕ) → k + 1 < n → slice_index_or starts k 0 ≤ slice_index_or starts (k + 1) 0
 
--- from each of so many to the next there are at most 1,000 letters
-abbrev pub NoneTooLong : (starts : List ℕ) → (many : ℕ) → Type 0
-NoneTooLong starts n = (k : ℕ) → k + 1 < n → slice_index_or starts (k + 1) 0 ≤ slice_index_or starts k 0 + 1000
+-- bytes are a name: a letter can be read everywhere, and there are at most 1,000
+abbrev pub IsName : (utf8 : Bool) → List ℕ → Type 0
+IsName utf8 n = (unread_in utf8 n ≡ None) × (length (letters_in utf8 n) ≤ 1000)
 
--- A text and starts hold names: there is a start, none is before the one in front of it, from each to the next there are at
--- most 1,000 letters, and the last is the end of the text.
-pub record AreNames (text starts : List ℕ) : Type 0 where
+-- those with numbers below this one are names
+abbrev pub NamesBelow : (utf8 : Bool) → (text starts : List ℕ) → (many : ℕ) → Type 0
+NamesBelow utf8 text starts n = (k : ℕ) → k < n → IsName utf8 (name_of text starts k)
+
+-- A text and starts hold names: there is a start, none is before the one in front of it, the last is the end of the text, and
+-- what stands from each to the next is a name.
+pub record AreNames (utf8 : Bool) (text starts : List ℕ) : Type 0 where
   pub some : 0 < length starts
   pub none_falls : NoneFalls starts (length starts)
-  pub none_too_long : NoneTooLong starts (length starts)
   pub ends : slice_index_or starts (length starts - 1) 0 ≡ length text
+  pub names : NamesBelow utf8 text starts (length starts - 1)
 
 -- nothing is wrong with them exactly if they hold names
 abbrev pub ExactlyNames : Type 0
-ExactlyNames = (text starts : List ℕ) → (names_fault text starts ≡ None → AreNames text starts) × (AreNames text starts → names_fault text starts ≡ None)
+ExactlyNames =
+    (utf8 : Bool) (text starts : List ℕ) →
+    (names_fault utf8 text starts ≡ None → AreNames utf8 text starts) × (AreNames utf8 text starts → names_fault utf8 text starts ≡ None)
 
 -- that this is wrong with them, and nothing that is looked for before it
-abbrev pub NamesWrong : (text starts : List ℕ) → ListFault → Type 0
-NamesWrong text starts NoStart = length starts ≡ 0
-NamesWrong text starts (StartFalls k) = (0 < k) × (k < length starts) × (slice_index_or starts k 0 < slice_index_or starts (k - 1) 0) × NoneFalls starts k
-NamesWrong text starts (NameTooLong i n) =
-    (i + 1 < length starts) × (slice_index_or starts (i + 1) 0 ≡ slice_index_or starts i 0 + n) × (1000 < n)
-    × NoneTooLong starts (i + 1) × NoneFalls starts (length starts)
-NamesWrong text starts (EndsElsewhere k) =
-    (k + 1 ≡ length starts) × (slice_index_or starts k 0 ≡ length text → ⊥) × NoneTooLong starts (length starts) × NoneFalls starts (length starts)
-NamesWrong text starts (NoSuchName k) = ⊥
-NamesWrong text starts (OutOfOrder k) = ⊥
+abbrev pub NamesWrong : (utf8 : Bool) → (text starts : List ℕ) → ListFault → Type 0
+NamesWrong utf8 text starts NoStart = length starts ≡ 0
+NamesWrong utf8 text starts (StartFalls k) = (0 < k) × (k < length starts) × (slice_index_or starts k 0 < slice_index_or starts (k - 1) 0) × NoneFalls starts k
+NamesWrong utf8 text starts (EndsElsewhere k) = (k + 1 ≡ length starts) × (slice_index_or starts k 0 ≡ length text → ⊥) × NoneFalls starts (length starts)
+NamesWrong utf8 text starts (NameRefused i why) =
+    (i + 1 < length starts) × (name_refusal utf8 (name_of text starts i) ≡ Some why) × NamesBelow utf8 text starts i
+    × (slice_index_or starts (length starts - 1) 0 ≡ length text) × NoneFalls starts (length starts)
+NamesWrong utf8 text starts (NoSuchName k) = ⊥
+NamesWrong utf8 text starts (OutOfOrder k) = ⊥
 
 -- what is told is the first that is wrong
 abbrev pub FirstOfNames : Type 0
-FirstOfNames = (text starts : List ℕ) (why : ListFault) → names_fault text starts ≡ Some why → NamesWrong text starts why
+FirstOfNames = (utf8 : Bool) (text starts : List ℕ) (why : ListFault) → names_fault utf8 text starts ≡ Some why → NamesWrong utf8 text starts why
 
 -- from the first start on the text is its names, one behind the other
 abbrev pub Tiled : Type 0
-Tiled = (text starts : List ℕ) → names_fault text starts ≡ None → concat (map (name_of text starts) (range_with_len 0 (length starts - 1))) ≡ drop (slice_index_or starts 0 0) text
+Tiled = (utf8 : Bool) (text starts : List ℕ) → names_fault utf8 text starts ≡ None → concat (map (name_of text starts) (range_with_len 0 (length starts - 1))) ≡ drop (slice_index_or starts 0 0) text
 
 -- ---- lists
 
@@ -81,7 +88,7 @@ PlacesWrong l (OutOfOrder k) =
     × ((j : ℕ) → j + 1 < k → name_before l.rules (name_at l (j + 1)) (name_at l j) ≡ false) × AllKnown l (length l.places)
 PlacesWrong l NoStart = ⊥
 PlacesWrong l (StartFalls k) = ⊥
-PlacesWrong l (NameTooLong i n) = ⊥
+PlacesWrong l (NameRefused i why) = ⊥
 PlacesWrong l (EndsElsewhere k) = ⊥
 
 -- what is told is the first that is wrong

@@ -19,7 +19,7 @@ pub struct CatalogueBuf {
     // All names' numbers in order, where they have been put in order; else none.
     places: Vec<u32>,
     arranged: bool,
-    ghost sound: { names_fault text.items starts.items ≡ None },
+    ghost sound: { names_fault (buffer_rules table).utf8 text.items starts.items ≡ None },
     ghost few: { length starts.items ≤ 2 ^ 32 },
     ghost listed: { places_fault (lists (buffer_rules table) text.items starts.items places.items) ≡ None },
     ghost none: { arranged ≡ false → places.items ≡ [] },

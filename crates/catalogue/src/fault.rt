@@ -11,10 +11,10 @@ pub enum ListFault {
     NoStart,
     // A start is before the one in front of it: its place.
     StartFalls(usize),
-    // By its starts a name has more than 1,000 letters: its number, and how many.
-    NameTooLong(usize, usize),
     // The last start is not the end of the text: its place.
     EndsElsewhere(usize),
+    // A name is turned away: its number, and why.
+    NameRefused(usize, NameRefusal),
     // A number is no name's: its place in the list.
     NoSuchName(usize),
     // A name is before the one in front of it: its place in the list.
@@ -22,15 +22,15 @@ pub enum ListFault {
 }
 
 impl ListFault {
-    // Where it is, counted from 0; of a name that is too long its number.
+    // Where it is, counted from 0; of a name that is turned away its number.
     pub fn place(self) -> usize
         ensures { result ≡ fault_place self }
     {
         match self {
             ListFault::NoStart => 0,
             ListFault::StartFalls(k)
-            | ListFault::NameTooLong(k, _)
             | ListFault::EndsElsewhere(k)
+            | ListFault::NameRefused(k, _)
             | ListFault::NoSuchName(k)
             | ListFault::OutOfOrder(k) => k,
         }

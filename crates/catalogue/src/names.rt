@@ -1,9 +1,11 @@
 // Names in a text, one behind the other.
 ghost use Rattle.std.specs.Prelude.{◌≡◌, ◌+◌, ◌-◌, ◌<◌, None, length};
-ghost use Rattle.catalogue.specs.Lists.{falls, letters_of, name_of, names_fault, too_long};
+ghost use Rattle.catalogue.specs.Lists.{falls, first_refused, name_of, names_fault, starts_fault};
+ghost use Rattle.table.specs.Meaning.{rules_of};
 ghost use Rattle.table.specs.Refusals.{first_place};
 
 use crate::fault::ListFault;
+use keys::NameRefusal;
 use table::Table;
 
 mod arrange;
@@ -13,16 +15,18 @@ mod arrange;
 pub struct Names<'a> {
     text: &'a [u8],
     starts: &'a [u32],
-    ghost sound: { names_fault text.now starts.now ≡ None },
+    // Whether they are in UTF-8.
+    utf8: bool,
+    ghost sound: { names_fault utf8 text.now starts.now ≡ None },
 }
 
 impl<'a> Names<'a> {
     ghost use Rattle.catalogue.specs.Checking.{NameOf, NamesChecked};
 
-    // The names of a text, if their starts are as they should be; else what is wrong.
-    #[tactic(auto, unfolding(crate::specs::Lists::names_fault), using(crate::proofs::Listing::long_below))]
-    pub fn check(text: &'a [u8], starts: &'a [u32]) -> Result<Names<'a>, ListFault>
-        ensures { NamesChecked text.now starts.now result }
+    // The names of a text as a table reads them, if they and their starts are as they should be; else what is wrong.
+    #[tactic(auto, unfolding(crate::specs::Lists::starts_fault, crate::specs::Lists::names_fault))]
+    pub fn check(table: &Table, text: &'a [u8], starts: &'a [u32]) -> Result<Names<'a>, ListFault>
+        ensures { NamesChecked (rules_of table.now).utf8 text.now starts.now result }
     {
         let Some(end) = starts.last() else {
             return Err(ListFault::NoStart);
@@ -30,21 +34,22 @@ impl<'a> Names<'a> {
         if let Some(place) = first_fall(starts) {
             return Err(ListFault::StartFalls(place));
         }
-        if let Some(number) = first_too_long(starts) {
-            return Err(ListFault::NameTooLong(number, letters(starts, number)));
-        }
         if *end as usize != text.len() {
             return Err(ListFault::EndsElsewhere(starts.len() - 1));
         }
-        Ok(Names { text, starts })
+        let utf8 = table.utf8();
+        match first_refused(utf8, text, starts) {
+            Some(fault) => Err(fault),
+            None => Ok(Names { text, starts, utf8 }),
+        }
     }
 
     // The same, where nothing is wrong.
-    pub(crate) fn new(text: &'a [u8], starts: &'a [u32]) -> Names<'a>
-        requires { names_fault text.now starts.now ≡ None }
-        ensures { (result.text ≡ text.entry) × (result.starts ≡ starts.entry) }
+    pub(crate) fn new(utf8: bool, text: &'a [u8], starts: &'a [u32]) -> Names<'a>
+        requires { names_fault utf8 text.now starts.now ≡ None }
+        ensures { (result.utf8 ≡ utf8) × (result.text ≡ text.entry) × (result.starts ≡ starts.entry) }
     {
-        Names { text, starts }
+        Names { text, starts, utf8 }
     }
 
     // How many there are.
@@ -91,23 +96,17 @@ fn first_fall(starts: &[u32]) -> Option<usize>
     None
 }
 
-// The first name of more than 1,000 letters.
-#[tactic(auto, using(table::proofs::Firsts::none_more, table::proofs::Firsts::first_is, table::proofs::Firsts::none_yet))]
-fn first_too_long(starts: &[u32]) -> Option<usize>
-    ensures { result ≡ first_place (too_long starts.now) (length starts.now - 1) }
+// The first name that is turned away, where the starts are as they should be.
+#[tactic(auto, using(crate::proofs::Listing::one_start, crate::proofs::Listing::start_rises, crate::proofs::Listing::start_within, crate::proofs::Listing::none_refused, crate::proofs::Listing::not_refused, crate::proofs::Listing::is_refused))]
+fn first_refused(utf8: bool, text: &[u8], starts: &[u32]) -> Option<ListFault>
+    requires { starts_fault text.now starts.now ≡ None }
+    ensures { result ≡ first_refused utf8 text.now starts.now (length starts.now - 1) }
 {
-    for number in 0..starts.len().saturating_sub(1) {
-        if letters(starts, number) > Table::MAX_NAME {
-            return Some(number);
+    for number in 0..starts.len() - 1 {
+        let name = &text[starts[number] as usize..starts[number + 1] as usize];
+        if let Some(why) = NameRefusal::of(utf8, name) {
+            return Some(ListFault::NameRefused(number, why));
         }
     }
     None
-}
-
-// How many letters the name of a number has, by its starts.
-fn letters(starts: &[u32], number: usize) -> usize
-    requires { number + 1 < length starts.now }
-    ensures { result ≡ letters_of starts.now number }
-{
-    starts[number + 1].saturating_sub(starts[number]) as usize
 }

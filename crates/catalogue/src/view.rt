@@ -19,6 +19,6 @@ pub struct Catalogue<'a> {
     text: &'a [u8],
     starts: &'a [u32],
     places: &'a [u32],
-    ghost sound: { names_fault text.now starts.now ≡ None },
+    ghost sound: { names_fault (rules_of table).utf8 text.now starts.now ≡ None },
     ghost listed: { places_fault (lists (rules_of table) text.now starts.now places.now) ≡ None },
 }

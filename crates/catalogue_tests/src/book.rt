@@ -1,9 +1,9 @@
-// Names written one behind the other, and looked through one by one.
+// Names written one behind the other and looked through one by one, and what letters weigh.
 use catalogue::Names;
 use order::{Collate, Standing};
 use std::alloc::Global;
 use std::test::Fail;
-use table::Table;
+use table::{Letter, Table, TableBuf, Weights};
 
 // A text and its starts, as a catalogue takes them.
 #[derive(Drop)]
@@ -22,6 +22,21 @@ impl Book {
             starts.push(u32::try_from(text.len())?)?;
         }
         Ok(Book { text, starts })
+    }
+}
+
+// Each of these letters weighs so.
+pub(crate) fn fill(table: &mut TableBuf, letters: &[(u32, [u16; 3])]) -> Result<(), Fail> {
+    for (letter, weights) in letters {
+        table.add_letter(entry(*letter, *weights))?;
+    }
+    Ok(())
+}
+
+pub(crate) fn entry(letter: u32, weights: [u16; 3]) -> Letter {
+    Letter {
+        letter,
+        weights: Weights::from(weights),
     }
 }
 

@@ -1,5 +1,6 @@
 // Lists that are no catalogue.
 use catalogue::{Catalogue, ListFault, Names, find, find_under};
+use keys::NameRefusal;
 use std::test::Fail;
 use table::{Table, valley_letters, valley_pairs};
 
@@ -21,7 +22,7 @@ fn told(rt: HostRuntime) {
         Case(&[0, 3, 2, 5], &[], Some(ListFault::StartFalls(2))),
         Case(&[3, 2, 1, 0], &[7], Some(ListFault::StartFalls(1))),
         Case(&[5000, 4, 0], &[0], Some(ListFault::StartFalls(1))),
-        Case(&[0, 1000, 2001], &[], Some(ListFault::NameTooLong(1, 1001))),
+        Case(&[0, 1000, 2001], &[], Some(ListFault::EndsElsewhere(2))),
         Case(&[0, 3, 4], &[9], Some(ListFault::EndsElsewhere(2))),
         Case(&[0, 3, 6], &[], Some(ListFault::EndsElsewhere(2))),
         Case(&[0], &[], Some(ListFault::EndsElsewhere(0))),
@@ -60,30 +61,51 @@ fn last_level(rt: HostRuntime) {
     assert_eq!(rt; fault, None);
 }
 
-// A name may have 1,000 letters; the first with more is told, behind a start that falls and before an end that is elsewhere.
+// A name may have 1,000 letters.
 #[test]
-fn long_name(rt: HostRuntime) -> Result<(), Fail> {
+fn longest_names(rt: HostRuntime) -> Result<(), Fail> {
+    let table = Table::valley();
+    let text = [b'a'; 2000];
+    let catalogue = Catalogue::check(&table, &text, &[0, 1000, 2000], &[1, 0])?;
+    assert_eq!(rt; catalogue.find(b"aaa"), [1, 0].as_slice());
+    Ok(())
+}
+
+// The first with more is told, behind a start that falls and an end that is elsewhere.
+#[test]
+fn long_names(rt: HostRuntime) {
     let table = Table::valley();
     let text = [b'a'; 2002];
-    let catalogue = Catalogue::check(&table, &text[..2000], &[0, 1000, 2000], &[1, 0])?;
-    assert_eq!(rt; catalogue.find(b"aaa"), [1, 0].as_slice());
-    assert_eq!(rt; Names::check(&text, &[0, 1000, 2000, 2002]).err(), None);
-    let fault = Some(ListFault::NameTooLong(1, 1001));
-    assert_eq!(rt; Names::check(&text, &[0, 1000, 2001, 2002]).err(), fault);
-    assert_eq!(rt; Names::check(&text, &[0, 1000, 2001, 2001]).err(), fault);
-    assert_eq!(rt; Names::check(&text, &[0, 1000, 2001, 9000]).err(), fault);
-    let fault = Some(ListFault::StartFalls(3));
-    assert_eq!(rt; Names::check(&text, &[0, 1000, 2001, 2000]).err(), fault);
-    let found = find_under(&table, &text, &[0, 1000, 2001, 2002], &[0], b"");
-    assert_eq!(rt; found, [].as_slice());
-    Ok(())
+    let first = ListFault::NameRefused(0, NameRefusal::TooLong(2002));
+    let second = ListFault::NameRefused(1, NameRefusal::TooLong(1001));
+    let third = ListFault::NameRefused(2, NameRefusal::TooLong(1001));
+    for (starts, fault) in [
+        ([0, 1000, 2000, 2002], None),
+        ([0, 2002, 2002, 2002], Some(first)),
+        ([0, 1000, 2001, 2002], Some(second)),
+        ([0, 1, 1001, 2002], Some(third)),
+        ([0, 1000, 2001, 2001], Some(ListFault::EndsElsewhere(3))),
+        ([0, 1000, 2001, 9000], Some(ListFault::EndsElsewhere(3))),
+        ([0, 1000, 2001, 2000], Some(ListFault::StartFalls(3))),
+    ] {
+        assert_eq!(rt; Names::check(&table, &text, &starts).err(), fault);
+        let all = if fault.is_none() { [0].as_slice() } else { &[] };
+        assert_eq!(rt; find_under(&table, &text, &starts, &[0], b""), all);
+    }
 }
 
 #[test]
 fn places(rt: HostRuntime) {
     assert_eq!(rt; ListFault::NoStart.place(), 0);
     assert_eq!(rt; ListFault::StartFalls(3).place(), 3);
-    assert_eq!(rt; ListFault::NameTooLong(4, 1001).place(), 4);
+    assert_eq!(rt;
+        ListFault::NameRefused(4, NameRefusal::TooLong(1001)).place(),
+        4
+    );
+    assert_eq!(rt;
+        ListFault::NameRefused(8, NameRefusal::NotUtf8(9)).place(),
+        8
+    );
     assert_eq!(rt; ListFault::EndsElsewhere(5).place(), 5);
     assert_eq!(rt; ListFault::NoSuchName(6).place(), 6);
     assert_eq!(rt; ListFault::OutOfOrder(7).place(), 7);

@@ -1,5 +1,5 @@
 // What is found in a list.
-use crate::book::{Book, filtered};
+use crate::book::{Book, fill, filtered};
 use catalogue::{Catalogue, Names};
 use std::alloc::Global;
 use std::process::Abort;
@@ -8,10 +8,10 @@ use table::{Pair, Table, TableBuf, Weights};
 
 // What is asked, and the places from which on and before which it is found.
 #[derive(Clone, Copy)]
-struct Case(&'static [u8], usize, usize);
+pub(crate) struct Case(pub(crate) &'static [u8], pub(crate) usize, pub(crate) usize);
 
 // Of a list each part is found, counted and cut as said, and is what looking at each name gives.
-fn all_found(
+pub(crate) fn all_found(
     rt: &impl Abort,
     heap: Global,
     table: &Table,
@@ -187,9 +187,10 @@ fn same_key(rt: HostRuntime) -> Result<(), Fail> {
 #[test]
 fn own_table(rt: HostRuntime) -> Result<(), Fail> {
     let mut own = TableBuf::new(rt.alloc())?;
-    own.set_letter(b'a', Weights::from([1, 0, 0]));
-    own.set_letter(b'b', Weights::from([3, 0, 0]));
-    own.set_letter(b'm', Weights::from([0, 1, 0]));
+    fill(
+        &mut own,
+        &[(97, [1, 0, 0]), (98, [3, 0, 0]), (109, [0, 1, 0])],
+    )?;
     own.add_pair(Pair {
         first: 97,
         second: 98,
@@ -200,7 +201,7 @@ fn own_table(rt: HostRuntime) -> Result<(), Fail> {
         rt.alloc(),
         &[b"", b"m", b"aa", b"am", b"amb", b"ab", b"aba", b"mab", b"b"],
     )?;
-    let names = Names::check(&book.text, &book.starts)?;
+    let names = Names::check(&table, &book.text, &book.starts)?;
     let places = names.in_order(&table, rt.alloc())?;
     assert_eq!(rt; places.as_slice(), [0, 1, 3, 2, 4, 5, 7, 6, 8].as_slice());
     let catalogue = Catalogue::check(&table, &book.text, &book.starts, &places)?;

@@ -1,4 +1,5 @@
 // Names and tables that grow.
+use crate::book::entry;
 use catalogue::{CatalogueBuf, NotTaken, PushError};
 use keys::NameRefusal;
 use std::process::Abort;
@@ -6,7 +7,7 @@ use std::test::Fail;
 use table::{AddError, Pair, Refusal, Table, TableBuf, Weights};
 
 // The names that are found are these, in this order.
-fn found(rt: &impl Abort, book: &CatalogueBuf, ask: &[u8], numbers: &[u32]) {
+pub(crate) fn found(rt: &impl Abort, book: &CatalogueBuf, ask: &[u8], numbers: &[u32]) {
     assert!(rt;
         book.catalogue()
             .is_some_and(|catalogue| catalogue.find(ask) == numbers)
@@ -49,12 +50,25 @@ fn tables(rt: HostRuntime) -> Result<(), Fail> {
     }
     book.put_in_order(heap)?;
     found(&rt, &book, b"a", &[0, 1, 2]);
-    book.set_letter(b'a', Weights::from([2, 0, 0]));
+    book.add_letter(entry(97, [2, 0, 0]))?;
     assert!(rt; book.catalogue().is_none());
     book.put_in_order(heap)?;
     found(&rt, &book, b"a", &[1, 2]);
     found(&rt, &book, b"", &[0, 1, 2]);
-    book.set_letter(b'b', Weights::from([3, 0, 0]));
+    book.add_letter(entry(98, [3, 0, 0]))?;
+    book.put_in_order(heap)?;
+    found(&rt, &book, b"", &[1, 2, 0]);
+    assert_eq!(rt;
+        book.add_letter(entry(98, [4, 0, 0])),
+        Err(AddError::Refused(Refusal::LetterTwice(2)))
+    );
+    assert_eq!(rt;
+        book.add_letter(entry(256, [4, 0, 0])),
+        Err(AddError::Refused(Refusal::NoLetter(2)))
+    );
+    found(&rt, &book, b"", &[1, 2, 0]);
+    book.add_letter(entry(256, [0, 0, 0]))?;
+    assert!(rt; book.catalogue().is_none());
     book.put_in_order(heap)?;
     found(&rt, &book, b"", &[1, 2, 0]);
     let pair = Pair {
@@ -73,7 +87,8 @@ fn tables(rt: HostRuntime) -> Result<(), Fail> {
     );
     found(&rt, &book, b"", &[2, 1, 0]);
     assert_eq!(rt; book.table().pair_count(), 1);
-    book.set_table(Table::valley().to_buf(heap)?);
+    book.set_table(Table::valley().to_buf(heap)?)?;
+    assert!(rt; book.catalogue().is_none());
     book.put_in_order(heap)?;
     found(&rt, &book, b"", &[1, 2, 0]);
     Ok(())
@@ -101,7 +116,7 @@ fn copies(rt: HostRuntime) -> Result<(), Fail> {
     let valley = Table::valley();
     let copy = valley.to_buf(rt.alloc())?;
     let table = copy.table();
-    for letter in 0..=255u8 {
+    for letter in 0..300u32 {
         assert_eq!(rt; table.letter(letter), valley.letter(letter));
     }
     assert_eq!(rt; table.pair_count(), 1);

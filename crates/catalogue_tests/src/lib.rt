@@ -1,5 +1,5 @@
-// Lists on examples: what is found in them, what is wrong with them, lists put in order, and names and tables that
-// grow.
+// Lists on examples: what is found in them, what is wrong with them, lists put in order, names and tables that grow, and
+// names in UTF-8.
 #![tactic(auto)]
 
 #[cfg(test)]
@@ -14,3 +14,7 @@ mod grown;
 mod lent;
 #[cfg(test)]
 mod made;
+#[cfg(test)]
+mod wide;
+#[cfg(test)]
+mod widened;

@@ -1,5 +1,5 @@
 // Lists put in order.
-use crate::book::{Book, filtered};
+use crate::book::{Book, fill, filtered};
 use catalogue::{Catalogue, Names};
 use order::Collate;
 use std::alloc::Global;
@@ -25,7 +25,7 @@ fn valley(rt: HostRuntime) -> Result<(), Fail> {
         ),
     ] {
         let book = Book::new(rt.alloc(), case.0)?;
-        let names = Names::check(&book.text, &book.starts)?;
+        let names = Names::check(&table, &book.text, &book.starts)?;
         let places = names.in_order(&table, rt.alloc())?;
         assert_eq!(rt; places.as_slice(), case.1);
     }
@@ -37,9 +37,10 @@ fn valley(rt: HostRuntime) -> Result<(), Fail> {
 #[test]
 fn many(rt: HostRuntime) -> Result<(), Fail> {
     let mut own = TableBuf::new(rt.alloc())?;
-    own.set_letter(b'a', Weights::from([1, 1, 0]));
-    own.set_letter(b'b', Weights::from([2, 0, 0]));
-    own.set_letter(b'c', Weights::from([0, 2, 1]));
+    fill(
+        &mut own,
+        &[(97, [1, 1, 0]), (98, [2, 0, 0]), (99, [0, 2, 1])],
+    )?;
     own.add_pair(Pair {
         first: 97,
         second: 97,
@@ -57,7 +58,7 @@ fn many(rt: HostRuntime) -> Result<(), Fail> {
         }
     }
     starts.push(u32::try_from(text.len())?)?;
-    let names = Names::check(&text, &starts)?;
+    let names = Names::check(&table, &text, &starts)?;
     let places = names.in_order(&table, rt.alloc())?;
     let inserted = inserted(rt.alloc(), &table, names, 300)?;
     assert_eq!(rt; places.as_slice(), inserted.as_slice());

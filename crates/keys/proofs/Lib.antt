@@ -1,5 +1,7 @@
+pub mod Lettering
 pub mod Pieces
 pub mod Reading
+pub mod Alike
 pub mod Stepping
 pub mod Bounding
 pub mod Entering

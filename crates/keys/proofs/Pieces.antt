@@ -1,5 +1,6 @@
 -- Reading one piece at the front of a name.
 use Rattle.std.proofs.Common.{◌≡◌, ℕ, Bool, true, false, List, [], ◌∷◌, Some, None, refl, arith}
+use Rattle.std.specs.List.{list_all}
 use Rattle.table.specs.declared.piece.Weights.{Weights}
 use Rattle.table.specs.Rules.{Rules, contraction}
 use Rattle.keys.specs.Laws.{meets}
@@ -16,6 +17,21 @@ module _ (j : List ℕ → Bool) where
   pub two_taken : (a b : ℕ) (n : List ℕ) → j (a ∷ (b ∷ [])) ≡ true → pieces j (a ∷ (b ∷ n)) ≡ (a ∷ (b ∷ [])) ∷ pieces j n
   unfolding pieces
   two_taken a b n e = rw e
+
+-- letters that are old have the same pieces where the same runs of old letters are one, and old pieces
+module _ (old : ℕ → Bool) (j k : List ℕ → Bool) where
+  pub same_pieces : ((run : List ℕ) → list_all old run ≡ true → j run ≡ k run) → (n : List ℕ) → list_all old n ≡ true → pieces j n ≡ pieces k n
+  unfolding pieces
+  same_pieces s [] o = refl
+  same_pieces s (a ∷ []) o = refl
+  same_pieces s (a ∷ (b ∷ xs)) o =
+      let e = s (a ∷ (b ∷ [])) in let two = same_pieces s xs in let one = same_pieces s (b ∷ xs) in grind arith
+
+  pub old_pieces : (n : List ℕ) → list_all old n ≡ true → list_all (list_all old) (pieces j n) ≡ true
+  unfolding pieces
+  old_pieces [] o = refl
+  old_pieces (a ∷ []) o = grind arith
+  old_pieces (a ∷ (b ∷ xs)) o = let two = old_pieces xs in let one = old_pieces (b ∷ xs) in grind arith
 
 -- what a table's answer for the first two letters says
 module _ (t : Rules) where

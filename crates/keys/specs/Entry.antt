@@ -1,5 +1,5 @@
 -- What the entry that makes a key answers, and what it leaves in the room.
-use Rattle.std.specs.Prelude.{◌≡◌, ℕ, cond, List, ◌++◌, length, drop, is_some, nat_lt}
+use Rattle.std.specs.Prelude.{◌≡◌, ℕ, cond, List, ◌++◌, length, drop, false, is_some, nat_lt}
 use Rattle.table.specs.Refusals.{refusal_of}
 use Rattle.table.specs.Rules.{rules_in}
 use Rattle.keys.specs.declared.entry.Done.{Done}
@@ -15,7 +15,7 @@ fits_in room k = cond (nat_lt room k) (Short k) (Keyed k)
 abbrev pub done_of : (letters joins : List ℕ) → (how_many : ℕ) → (name : List ℕ) → (room : ℕ) → Done
 done_of ls js n x room =
     cond (is_some (refusal_of ls js n)) (Refused 1)
-    (cond (is_some (name_refusal x)) (Refused 2)
+    (cond (is_some (name_refusal false x)) (Refused 2)
     (fits_in room (length (key (rules_in ls js n) x))))
 
 -- a key that is made stands in front of the rest of the room; else the room is as it was

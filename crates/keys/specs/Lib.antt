@@ -1,3 +1,4 @@
+pub mod Letters
 pub mod Pieces
 pub mod Rows
 pub mod Reading

@@ -24,6 +24,6 @@ Written k room (Err short) after = (short.needs ≡ saturated (length k)) × (le
 
 -- a key made in memory of its own, whose items are the key; or why not
 abbrev pub Made : {V : Type 0} → Rules → (name : List ℕ) → (V → List ℕ) → Result V (Failure NameRefusal) → Type 0
-Made t n items (Ok v) = (name_refusal n ≡ None) × (items v ≡ key t n)
-Made t n items (Err (Refused why)) = name_refusal n ≡ Some why
-Made t n items (Err NoMemory) = name_refusal n ≡ None
+Made t n items (Ok v) = (name_refusal t.utf8 n ≡ None) × (items v ≡ key t n)
+Made t n items (Err (Refused why)) = name_refusal t.utf8 n ≡ Some why
+Made t n items (Err NoMemory) = name_refusal t.utf8 n ≡ None

@@ -1,5 +1,5 @@
 -- Reading along a row and along a key.
-use Rattle.std.specs.Prelude.{◌≡◌, ℕ, ◌<◌, Bool, true, false, not, ◌&&◌, cond, List, [], ◌∷◌, drop, length, Some, None, Option, ◌==◌}
+use Rattle.std.specs.Prelude.{◌≡◌, ℕ, ◌<◌, Bool, true, false, cond, List, [], ◌∷◌, drop, length, Some, None, Option, ◌==◌}
 use Rattle.table.specs.declared.piece.Weights.{Weights}
 use Rattle.table.specs.Meaning.{rules_of}
 use Rattle.table.specs.Rules.{Rules, contraction}
@@ -8,6 +8,7 @@ use Rattle.keys.specs.declared.level.Level.TheVariants.{Primary, Secondary, Tert
 use Rattle.keys.specs.declared.numbers.KeyNumbers.{KeyNumbers}
 use Rattle.keys.specs.declared.row.Row.{Row}
 use Rattle.keys.specs.declared.walk.Walk.{Walk}
+use Rattle.keys.specs.Letters.{first_in, letters_in}
 use Rattle.keys.specs.Rows.{joined, on, row}
 
 -- what the first two letters weigh, where they are there and are one together
@@ -18,7 +19,15 @@ front_pair t (a ∷ (b ∷ n)) = contraction t (a ∷ (b ∷ []))
 
 -- the same of the next two
 abbrev pub next_pair : Walk → Option Weights
-next_pair w = front_pair (rules_of w.table.now) w.rest.now
+next_pair w = front_pair (rules_of w.table.now) (letters_in w.table.now.utf8 w.rest.now)
+
+-- the same of a letter that was read and the first of what is behind it
+abbrev pub with_first : Rules → (letter : ℕ) → Option (ℕ × ℕ) → Option Weights
+with_first t a None = None
+with_first t a (Some (b, k)) = contraction t (a ∷ (b ∷ []))
+
+abbrev pub pair_with : Rules → (letter : ℕ) → (rest : List ℕ) → Option Weights
+pair_with t a n = with_first t a (first_in t.utf8 n)
 
 -- each weight is one of 16 bits
 abbrev pub AreShort : Weights → Type 0
@@ -27,10 +36,6 @@ AreShort w = (l : Level) → on l w < 65536
 -- they are, and weigh so
 abbrev pub PairAt : Walk → Type 0
 PairAt w = (next_pair w ≡ Some w.weights) × AreShort w.weights
-
--- on some level it doesn't weigh 0
-abbrev pub counts : Weights → Bool
-counts w = not (w.primary == 0 && (w.secondary == 0 && w.tertiary == 0))
 
 -- a weight in front of a row, unless it is 0
 abbrev pub in_front : ℕ → List ℕ → List ℕ

@@ -4,6 +4,7 @@ use Rattle.table.specs.declared.piece.Weights.{Weights}
 use Rattle.table.specs.Rules.{Rules}
 use Rattle.keys.specs.declared.level.Level.{Level}
 use Rattle.keys.specs.declared.level.Level.TheVariants.{Primary, Secondary, Tertiary}
+use Rattle.keys.specs.Letters.{letters_in}
 use Rattle.keys.specs.Pieces.{pieces}
 
 -- the weight of a level
@@ -27,9 +28,13 @@ unfoldable pub without_zeros : List ℕ → List ℕ
 without_zeros [] = []
 without_zeros (x ∷ xs) = cond (x == 0) (without_zeros xs) (x ∷ without_zeros xs)
 
--- a name's row of a level: the weights of its pieces on that level, in order, without zeros
+-- the row of letters on a level: the weights of their pieces on that level, in order, without zeros
+unfoldable pub row_of : Level → Rules → (letters : List ℕ) → List ℕ
+row_of l t ls = without_zeros (map (weight l t) (pieces t.joins ls))
+
+-- a name's row of a level is that of its letters
 unfoldable pub row : Level → Rules → List ℕ → List ℕ
-row l t n = without_zeros (map (weight l t) (pieces t.joins n))
+row l t n = row_of l t (letters_in t.utf8 n)
 
 -- its rows, level after level
 abbrev pub rows : Rules → List ℕ → List (List ℕ)

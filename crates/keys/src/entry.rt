@@ -32,7 +32,7 @@ pub fn make_key(
         Ok(table) => table,
         Err(why) => return Done::Refused(why.number()),
     };
-    if let Some(why) = NameRefusal::of(name) {
+    if let Some(why) = NameRefusal::of(false, name) {
         return Done::Refused(why.number());
     }
     if let Err(short) = has_room(&table, name, room.len()) {

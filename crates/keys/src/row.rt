@@ -38,7 +38,7 @@ impl Iterator for Row<'_, '_, '_> {
     ghost remaining = { λ s. at_most (length (row_left s)) };
 
     fn next(&mut self) -> Option<u32> {
-        while self.walk.letter_step() {
+        while self.walk.step() {
             let weight = self.level.weight(self.walk.weights);
             if weight != 0 {
                 return Some(weight as u32);

@@ -26,7 +26,7 @@ pub(crate) fn fill_short<T: Cell>(table: &Table, name: &[u8], room: &mut [T]) ->
     let mut second = 0;
     let mut third = 0;
     let mut walk = Walk::new(table, name);
-    while walk.letter_step() {
+    while walk.step() {
         first = add(&mut primary, first, walk.weights.primary);
         second = add(&mut secondary, second, walk.weights.secondary);
         third = add(&mut tertiary, third, walk.weights.tertiary);

@@ -47,12 +47,13 @@ impl SortKeys for Table<'_> {
         Ok(fill(self, name, room))
     }
 
-    #[tactic(auto, using(crate::proofs::Bounding::key_few))]
+    #[tactic(auto, using(crate::proofs::Bounding::key_few, crate::proofs::Entering::key_most))]
     fn sort_key(&self, heap: Global, name: &[u8]) -> Result<Vec<u32>, KeyError> {
-        if let Some(why) = NameRefusal::of(name) {
+        if let Some(why) = NameRefusal::of(self.utf8(), name) {
             return Err(KeyError::Refused(why));
         }
-        let mut key = vec![in heap; 0; 3 * name.len() + 2]?;
+        let most = name.len().saturating_mul(3).saturating_add(2);
+        let mut key = vec![in heap; 0; most]?;
         let numbers = fill(self, name, &mut key);
         key.truncate(numbers);
         Ok(key)

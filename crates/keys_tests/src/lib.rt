@@ -1,4 +1,4 @@
-// Sort keys on examples: the numbers, the room that they are written into, and what is turned away.
+// Sort keys on examples: the numbers, the room that they are written into, what is turned away, and names in UTF-8.
 #![tactic(auto)]
 
 #[cfg(test)]
@@ -7,3 +7,5 @@ mod limits;
 mod numbers;
 #[cfg(test)]
 mod room;
+#[cfg(test)]
+mod wide;

@@ -1,7 +1,7 @@
 // Names at the limit and past it, and what is turned away.
 use keys::{Done, KeyError, NameRefusal, Short, SortKeys, make_key};
 use std::test::Fail;
-use table::{Pair, Table, TableBuf, Weights, valley_letters, valley_pairs};
+use table::{Letter, Pair, Table, TableBuf, Weights, valley_letters, valley_pairs};
 
 // 1,000 letters are taken, 1,001 are not.
 #[test]
@@ -36,8 +36,11 @@ fn longest_name(rt: HostRuntime) {
     );
     assert!(rt; room[0] == 10 && room[999] == 10 && room[1000] == 0);
     assert!(rt; room[1001] == 1 && room[2001] == 0 && room[3001] == 1 && room[3002] == 7);
-    assert_eq!(rt; NameRefusal::of(&name), Some(NameRefusal::TooLong(1001)));
-    assert_eq!(rt; NameRefusal::of(&name[0..1000]), None);
+    assert_eq!(rt;
+        NameRefusal::of(false, &name),
+        Some(NameRefusal::TooLong(1001))
+    );
+    assert_eq!(rt; NameRefusal::of(false, &name[0..1000]), None);
     assert_eq!(rt; NameRefusal::TooLong(1001).number(), 2);
     assert_eq!(rt; NameRefusal::TooLong(1001).place(), 1001);
     assert!(rt; NameRefusal::TooLong(1001) == NameRefusal::TooLong(1001));
@@ -87,7 +90,10 @@ fn order_of_checks(rt: HostRuntime) {
 fn any_bytes(rt: HostRuntime) -> Result<(), Fail> {
     let heap = rt.alloc();
     let mut own = TableBuf::new(heap)?;
-    own.set_letter(1, Weights::from([7, 8, 9]));
+    own.add_letter(Letter {
+        letter: 1,
+        weights: Weights::from([7, 8, 9]),
+    })?;
     own.add_pair(Pair {
         first: 0,
         second: 0,

@@ -3,14 +3,19 @@ use keys::{KeyError, KeyNumbers, Level, Row, SortKeys};
 use std::alloc::Global;
 use std::process::Abort;
 use std::test::Fail;
-use table::{Pair, Table, TableBuf, Weights};
+use table::{Letter, Pair, Table, TableBuf, Weights};
 
 // A name and its key.
 #[derive(Clone, Copy)]
-struct Case(&'static [u8], &'static [u32]);
+pub(crate) struct Case(pub(crate) &'static [u8], pub(crate) &'static [u32]);
 
 // The numbers come one after the other, are as many as measured, and are those that are made.
-fn hold(rt: &impl Abort, heap: Global, table: &Table, cases: &[Case]) -> Result<(), KeyError> {
+pub(crate) fn hold(
+    rt: &impl Abort,
+    heap: Global,
+    table: &Table,
+    cases: &[Case],
+) -> Result<(), KeyError> {
     for case in cases {
         assert!(rt; KeyNumbers::new(table, case.0).eq(case.1.iter().copied()));
         assert_eq!(rt; table.key_len(case.0), case.1.len());
@@ -68,8 +73,12 @@ fn pairs_from_the_left(rt: HostRuntime) -> Result<(), Fail> {
 fn own_table(rt: HostRuntime) -> Result<(), Fail> {
     let heap = rt.alloc();
     let mut own = TableBuf::new(heap)?;
-    own.set_letter(b'a', Weights::from([1, 2, 3]));
-    own.set_letter(b'b', Weights::from([0, 0, 65535]));
+    for (letter, weights) in [(97, [1, 2, 3]), (98, [0, 0, 65535])] {
+        own.add_letter(Letter {
+            letter,
+            weights: Weights::from(weights),
+        })?;
+    }
     for (first, second, weights) in [
         (97, 97, [0, 7, 0]),
         (97, 98, [9, 0, 0]),

@@ -1,3 +1,4 @@
+pub mod Entering
 pub mod Growing
 pub mod Progress
 pub mod Tables

@@ -12,7 +12,7 @@ pub letters_none : (t : Rules) → letters_text t 0 ≡ []
 unfolding letters_text
 letters_none t = refl
 
-pub letters_more : (t : Rules) (n : ℕ) → letters_text t (n + 1) ≡ letters_text t n ++ letter_line n (t.weighs (n ∷ []))
+pub letters_more : (t : Rules) (n : ℕ) → letters_text t (n + 1) ≡ letters_text t n ++ letter_line (record { letter = n; weights = t.weighs (n ∷ []) })
 unfolding letters_text
 letters_more t n = rw add-one refl
 

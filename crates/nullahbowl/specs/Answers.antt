@@ -11,7 +11,7 @@ use Rattle.nullahbowl.specs.declared.argument.Options.{Options}
 use Rattle.nullahbowl.specs.declared.session.Session.{Session}
 use Rattle.table.specs.Buffer.{buffer_pairs}
 use Rattle.texts.specs.declared.fault.Fault.{Fault}
-use Rattle.texts.specs.declared.fault.Fault.TheVariants.{Again, Name, Question, Table, Text}
+use Rattle.texts.specs.declared.fault.Fault.TheVariants.{Bytes, Name, Question, Table, Text}
 use Rattle.texts.specs.Lines.{meaning_of}
 use Rattle.texts.specs.Parts.{parts, without_return}
 use Rattle.texts.specs.Written.{numbers_text}
@@ -36,7 +36,7 @@ is_question (Question why) = true
 is_question (Table why) = false
 is_question (Name why) = false
 is_question (Text k) = false
-is_question (Again k) = false
+is_question (Bytes k) = false
 
 -- how many questions a line is: one or none
 abbrev pub asked_in : Result Answer TakeError → ℕ

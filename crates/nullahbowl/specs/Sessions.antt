@@ -1,8 +1,8 @@
 -- What the lines read so far make, and what one line more changes and is answered.
-use Rattle.std.specs.Prelude.{◌≡◌, ℕ, Bool, true, false, cond, List, [], ◌∷◌, ◌++◌, length, map, replicate, slice_index_or, slice_set, Some, None, Ok, Err, Option, Result, vec_items, ◌&&◌}
+use Rattle.std.specs.Prelude.{◌≡◌, ℕ, Bool, true, false, cond, List, [], ◌∷◌, ◌++◌, length, map, replicate, slice_set, Some, None, Ok, Err, Option, Result, vec_items, ◌&&◌}
 use Rattle.std.specs.declared.alloc.AllocError.{AllocError}
 use Rattle.catalogue.specs.Arranging.{Arranged}
-use Rattle.catalogue.specs.Filling.{Kept, Appended, SameNames, TooMuch, held_rules, held_starts, held_text}
+use Rattle.catalogue.specs.Filling.{Appended, Kept, SameNames, TableSet, TooMuch, held_rules, held_starts, held_text}
 use Rattle.catalogue.specs.Finding.{looked_through, may_ask}
 use Rattle.catalogue.specs.Lists.{Lists, lists, name_of}
 use Rattle.keys.specs.Making.{Made}
@@ -12,36 +12,42 @@ use Rattle.nullahbowl.specs.declared.answer.Answer.TheVariants.{Find, Key, Nothi
 use Rattle.nullahbowl.specs.declared.answer.TakeError.{TakeError}
 use Rattle.nullahbowl.specs.declared.answer.TakeError.TheVariants.{Full, NoMemory, Refused}
 use Rattle.nullahbowl.specs.declared.session.Session.{Session}
-use Rattle.table.specs.Buffer.{buffer_pairs, pair_refusal}
-use Rattle.table.specs.Rules.{Rules, no_rules, with_letter, with_pair}
+use Rattle.table.specs.Buffer.{buffer_letters, buffer_pairs, letter_refusal, pair_refusal, with_entry}
+use Rattle.table.specs.Rules.{Rules, in_utf8, no_rules, with_pair}
 use Rattle.table.specs.Valley.{valley, valley_pairs}
+use Rattle.table.specs.declared.buffer.TableBuf.{TableBuf}
+use Rattle.table.specs.declared.piece.Letter.{Letter}
 use Rattle.table.specs.declared.piece.Pair.{Pair}
-use Rattle.table.specs.declared.piece.Weights.{Weights}
-use Rattle.texts.specs.declared.fault.Fault.TheVariants.{Again, Name, Question, Table, Text}
+use Rattle.texts.specs.declared.fault.Fault.TheVariants.{Bytes, Name, Question, Table, Text}
 use Rattle.texts.specs.declared.line.Entry.TheVariants as entry
-use Rattle.texts.specs.Lines.{Meaning, blank, enters, finds, names, says, unreadable, wants_key}
+use Rattle.texts.specs.Lines.{Meaning, blank, damaged, enters, finds, names, says, unreadable, wants_key}
 
--- the letters that the lines of a table name; all, where the table is the valley's
+-- the letters that the lines of a table name, by their numbers; all, where the table is the valley's
 abbrev pub session_letters : Session → List Bool
-session_letters s = cond s.own s.named (replicate 256 true)
+session_letters s = s.named
 
--- what the lines of a table say by now, and their pairs
+-- what the lines of a table say by now, their pairs, how many letters weigh something, and which are named
 abbrev pub entered_rules : Session → Rules
-entered_rules s = cond s.own (held_rules s.book) no_rules
+entered_rules s = cond s.own (held_rules s.book) (no_rules true)
 
 abbrev pub entered_pairs : Session → List Pair
 entered_pairs s = cond s.own (buffer_pairs s.book.table) []
+
+abbrev pub entered_letters : Session → ℕ
+entered_letters s = cond s.own (buffer_letters s.book.table) 0
+
+abbrev pub entered_named : Session → List Bool
+entered_named s = cond s.own (s.named) (replicate 65536 false)
 
 -- all names under the table, and their list
 abbrev pub session_lists : Session → Lists
 session_lists s = lists (held_rules s.book) (held_text s.book) (held_starts s.book) (vec_items s.book.places)
 
--- nothing has been taken yet, and the table is the valley's
+-- nothing has been taken yet, and the table is the valley's, of names in UTF-8
 pub record Fresh (s : Session) : Type 0 where
   pub own : s.own ≡ false
-  pub weighed : s.weighed ≡ replicate 256 false
-  pub named : s.named ≡ replicate 256 false
-  pub rules : held_rules s.book ≡ valley
+  pub named : s.named ≡ replicate 65536 true
+  pub rules : held_rules s.book ≡ in_utf8 valley
   pub pairs : buffer_pairs s.book.table ≡ valley_pairs
   pub text : held_text s.book ≡ []
   pub starts : held_starts s.book ≡ 0 ∷ []
@@ -55,12 +61,11 @@ IsListed s = s.book.arranged ≡ true → ∥ Arranged (session_lists s) ∥₁
 -- the names of this list that begin so, in its order: what looking through it gives; none where the names are not in order, or
 -- what is asked is too long
 abbrev pub found_names : Session → (ask : List ℕ) → List (List ℕ)
-found_names s ask = map (name_of (held_text s.book) (held_starts s.book)) (looked_through (s.book.arranged && may_ask ask) (session_lists s) ask)
+found_names s ask = map (name_of (held_text s.book) (held_starts s.book)) (looked_through (s.book.arranged && may_ask (session_lists s) ask) (session_lists s) ask)
 
 -- what lines of a table have said is the same
 pub record SameEntries (s t : Session) : Type 0 where
   pub own : t.own ≡ s.own
-  pub weighed : t.weighed ≡ s.weighed
   pub named : t.named ≡ s.named
 
 -- table, names and entries are the same
@@ -69,56 +74,64 @@ pub record Same (s t : Session) : Type 0 where
   pub table : t.book.table ≡ s.book.table
   pub names : SameNames s.book t.book
 
+-- what the table says, its pairs, its letters and names are the same, and so is their list
+abbrev pub SameSaid : (s t : Session) → Type 0
+SameSaid s t =
+    (held_rules t.book ≡ held_rules s.book) × (buffer_pairs t.book.table ≡ buffer_pairs s.book.table)
+    × (buffer_letters t.book.table ≡ buffer_letters s.book.table) × SameEntries s t × Kept s.book t.book
+
 -- all names are in order, and nothing else changes; or there is no memory
 abbrev pub Settled : Session → Result Unit AllocError → Session → Type 0
 Settled s (Ok x) t = (t.book.arranged ≡ true) × Same s t
 Settled s (Err x) t = (s.book.arranged ≡ false) × (t ≡ s)
 
--- A letter that has no line yet weighs so, and the table is that of the lines; a second line for it, at place k, is turned away.
--- There may be no memory where it is the first line of a table. What is not taken changes nothing.
-abbrev pub Weighed : Session → (letter : ℕ) → Weights → (k : ℕ) → Result Unit TakeError → Session → Type 0
-Weighed s a w k (Ok x) t =
-    (slice_index_or s.weighed a false ≡ false) × (t.own ≡ true) × (t.weighed ≡ slice_set s.weighed a true) × (t.named ≡ slice_set s.named a true)
-    × (held_rules t.book ≡ with_letter (entered_rules s) a w) × (buffer_pairs t.book.table ≡ entered_pairs s) × SameNames s.book t.book
-    × (t.book.arranged ≡ false)
-Weighed s a w k (Err (Refused (Again j))) t = (slice_index_or s.weighed a false ≡ true) × (j ≡ k) × (t ≡ s)
-Weighed s a w k (Err (Refused (Text j))) t = ⊥
-Weighed s a w k (Err (Refused (Question why))) t = ⊥
-Weighed s a w k (Err (Refused (Name why))) t = ⊥
-Weighed s a w k (Err (Refused (Table why))) t = ⊥
-Weighed s a w k (Err Full) t = ⊥
-Weighed s a w k (Err NoMemory) t = (slice_index_or s.weighed a false ≡ false) × (s.own ≡ false) × (t ≡ s)
+-- The first line of a table has been taken, which makes this one: it stands in place of the valley's, and no letter is named yet.
+abbrev pub Begun : Session → TableBuf → Session → Type 0
+Begun s b t = (t.own ≡ true) × (t.named ≡ replicate 65536 false) × TableSet s.book b t.book
 
--- A pair is added to those of the lines, and the table is that of the lines. Where it can't be one of them it is turned away,
--- as the table says, and nothing changes. Or there is no memory, and what all say is the same; where it is the first line of a
--- table, nothing changes then.
+-- A letter is added to those of the lines, and named, and the table is that of the lines. Where it can't be one of them it is
+-- turned away, as the table says, and nothing changes. Or there is no memory, and what all say is the same; where it is the first
+-- line of a table, nothing changes then.
+abbrev pub Weighed : Session → Letter → Result Unit TakeError → Session → Type 0
+Weighed s e (Ok x) t =
+    (letter_refusal (entered_rules s) (entered_letters s) e ≡ None)
+    × (t.own ≡ true) × (t.named ≡ slice_set (entered_named s) e.letter true)
+    × (held_rules t.book ≡ with_entry (entered_rules s) e) × (buffer_pairs t.book.table ≡ entered_pairs s) × SameNames s.book t.book
+    × (t.book.arranged ≡ false)
+Weighed s e (Err (Refused (Table why))) t = (letter_refusal (entered_rules s) (entered_letters s) e ≡ Some why) × (t ≡ s)
+Weighed s e (Err (Refused (Bytes j))) t = ⊥
+Weighed s e (Err (Refused (Text j))) t = ⊥
+Weighed s e (Err (Refused (Question why))) t = ⊥
+Weighed s e (Err (Refused (Name why))) t = ⊥
+Weighed s e (Err Full) t = ⊥
+Weighed s e (Err NoMemory) t = (s.own ≡ false → t ≡ s) × SameSaid s t
+
+-- A pair is added to those of the lines, its letters are named, and the table is that of the lines. Else it is as of a letter.
 abbrev pub Joined : Session → Pair → Result Unit TakeError → Session → Type 0
 Joined s p (Ok x) t =
     (pair_refusal (entered_rules s) (length (entered_pairs s)) p ≡ None)
-    × (t.own ≡ true) × (t.weighed ≡ s.weighed) × (t.named ≡ slice_set (slice_set s.named p.first true) p.second true)
+    × (t.own ≡ true) × (t.named ≡ slice_set (slice_set (entered_named s) p.first true) p.second true)
     × (held_rules t.book ≡ with_pair (entered_rules s) p) × (buffer_pairs t.book.table ≡ entered_pairs s ++ p ∷ []) × SameNames s.book t.book
     × (t.book.arranged ≡ false)
 Joined s p (Err (Refused (Table why))) t = (pair_refusal (entered_rules s) (length (entered_pairs s)) p ≡ Some why) × (t ≡ s)
-Joined s p (Err (Refused (Again j))) t = ⊥
+Joined s p (Err (Refused (Bytes j))) t = ⊥
 Joined s p (Err (Refused (Text j))) t = ⊥
 Joined s p (Err (Refused (Question why))) t = ⊥
 Joined s p (Err (Refused (Name why))) t = ⊥
 Joined s p (Err Full) t = ⊥
-Joined s p (Err NoMemory) t =
-    (pair_refusal (entered_rules s) (length (entered_pairs s)) p ≡ None) × (s.own ≡ false → t ≡ s)
-    × (held_rules t.book ≡ held_rules s.book) × (buffer_pairs t.book.table ≡ buffer_pairs s.book.table) × SameEntries s t × Kept s.book t.book
+Joined s p (Err NoMemory) t = (s.own ≡ false → t ≡ s) × SameSaid s t
 
 -- What asks for names is turned away if it is too long, and changes nothing; else all names are in order. There may be no memory
 -- where they were not yet.
 abbrev pub Prepared : Session → (ask : List ℕ) → Result Unit TakeError → Session → Type 0
-Prepared s n (Ok x) t = (name_refusal n ≡ None) × (t.book.arranged ≡ true) × Same s t
-Prepared s n (Err (Refused (Question why))) t = (name_refusal n ≡ Some why) × (t ≡ s)
-Prepared s n (Err (Refused (Again j))) t = ⊥
+Prepared s n (Ok x) t = (name_refusal true n ≡ None) × (t.book.arranged ≡ true) × Same s t
+Prepared s n (Err (Refused (Question why))) t = (name_refusal true n ≡ Some why) × (t ≡ s)
+Prepared s n (Err (Refused (Bytes j))) t = ⊥
 Prepared s n (Err (Refused (Text j))) t = ⊥
 Prepared s n (Err (Refused (Name why))) t = ⊥
 Prepared s n (Err (Refused (Table why))) t = ⊥
 Prepared s n (Err Full) t = ⊥
-Prepared s n (Err NoMemory) t = (name_refusal n ≡ None) × (s.book.arranged ≡ false) × (t ≡ s)
+Prepared s n (Err NoMemory) t = (name_refusal true n ≡ None) × (s.book.arranged ≡ false) × (t ≡ s)
 
 -- what was done, where nothing is asked for
 abbrev pub done : Result Answer TakeError → Option (Result Unit TakeError)
@@ -134,27 +147,27 @@ IfDone (Some r) P = P r
 
 -- one name more, behind the others; what is turned away, or is one too many, changes nothing; or there is no memory
 abbrev pub NameTaken : Session → (name : List ℕ) → Result Unit TakeError → Session → Type 0
-NameTaken s n (Ok x) t = (name_refusal n ≡ None) × (TooMuch s.book n → ⊥) × Appended s.book n (Ok tt) t.book × SameEntries s t
-NameTaken s n (Err (Refused (Name why))) t = (name_refusal n ≡ Some why) × (t ≡ s)
-NameTaken s n (Err (Refused (Again j))) t = ⊥
+NameTaken s n (Ok x) t = (name_refusal true n ≡ None) × (TooMuch s.book n → ⊥) × Appended s.book n (Ok tt) t.book × SameEntries s t
+NameTaken s n (Err (Refused (Name why))) t = (name_refusal true n ≡ Some why) × (t ≡ s)
+NameTaken s n (Err (Refused (Bytes j))) t = ⊥
 NameTaken s n (Err (Refused (Text j))) t = ⊥
 NameTaken s n (Err (Refused (Question why))) t = ⊥
 NameTaken s n (Err (Refused (Table why))) t = ⊥
-NameTaken s n (Err Full) t = (name_refusal n ≡ None) × TooMuch s.book n × (t ≡ s)
-NameTaken s n (Err NoMemory) t = (name_refusal n ≡ None) × (TooMuch s.book n → ⊥) × (t.book.table ≡ s.book.table) × SameEntries s t × Kept s.book t.book
+NameTaken s n (Err Full) t = (name_refusal true n ≡ None) × TooMuch s.book n × (t ≡ s)
+NameTaken s n (Err NoMemory) t = (name_refusal true n ≡ None) × (TooMuch s.book n → ⊥) × (t.book.table ≡ s.book.table) × SameEntries s t × Kept s.book t.book
 
 -- a key is made, or not, as under a checked table
 abbrev pub KeyAnswered : Rules → List ℕ → Result Answer TakeError → Type 0
 KeyAnswered rules n (Ok (Key v)) = Made rules n vec_items (Ok v)
 KeyAnswered rules n (Ok Nothing) = ⊥
 KeyAnswered rules n (Ok (Find m)) = ⊥
-KeyAnswered rules n (Err (Refused (Question why))) = name_refusal n ≡ Some why
-KeyAnswered rules n (Err (Refused (Again j))) = ⊥
+KeyAnswered rules n (Err (Refused (Question why))) = name_refusal rules.utf8 n ≡ Some why
+KeyAnswered rules n (Err (Refused (Bytes j))) = ⊥
 KeyAnswered rules n (Err (Refused (Text j))) = ⊥
 KeyAnswered rules n (Err (Refused (Name why))) = ⊥
 KeyAnswered rules n (Err (Refused (Table why))) = ⊥
 KeyAnswered rules n (Err Full) = ⊥
-KeyAnswered rules n (Err NoMemory) = name_refusal n ≡ None
+KeyAnswered rules n (Err NoMemory) = name_refusal rules.utf8 n ≡ None
 
 -- all names are in order, and what is asked is handed back to find with; or it is turned away
 abbrev pub FindAnswered : Session → (ask : List ℕ) → Result Answer TakeError → Session → Type 0
@@ -167,7 +180,8 @@ FindAnswered s n (Err e) t = Prepared s n (Err e) t
 abbrev pub Taken : Session → Meaning → (k : ℕ) → Result Answer TakeError → Session → Type 0
 Taken s blank k r t = (r ≡ Ok Nothing) × (t ≡ s)
 Taken s unreadable k r t = (r ≡ Err (Refused (Text k))) × (t ≡ s)
-Taken s (says (enters (entry.Letter a w))) k r t = IfDone (done r) (λ d. Weighed s a w k d t)
+Taken s (damaged j) k r t = (r ≡ Err (Refused (Bytes j))) × (t ≡ s)
+Taken s (says (enters (entry.Letter e))) k r t = IfDone (done r) (λ d. Weighed s e d t)
 Taken s (says (enters (entry.Pair p))) k r t = IfDone (done r) (λ d. Joined s p d t)
 Taken s (says (names n)) k r t = IfDone (done r) (λ d. NameTaken s n d t)
 Taken s (says (wants_key n)) k r t = KeyAnswered (held_rules s.book) n r × (t ≡ s)

@@ -1,11 +1,11 @@
 -- What is written.
-use Rattle.std.specs.Prelude.{ℕ, zero, suc, ◌-◌, ◌^◌, ◌==◌, ◌&&◌, Bool, cond, decimal, length, take, List, [], ◌∷◌, ◌++◌}
+use Rattle.std.specs.Prelude.{ℕ, zero, suc, ◌-◌, ◌^◌, cond, decimal, length, take, List, [], ◌∷◌, ◌++◌}
 use Rattle.std.specs.List.{flat_map}
 use Rattle.std.specs.Option.{unwrap_or}
 use Rattle.nullahbowl.specs.declared.argument.Options.{Options}
-use Rattle.table.specs.Rules.{Rules}
+use Rattle.table.specs.Rules.{Rules, counts}
+use Rattle.table.specs.declared.piece.Letter as letter
 use Rattle.table.specs.declared.piece.Pair as pair
-use Rattle.table.specs.declared.piece.Weights.{Weights}
 use Rattle.texts.specs.Written.{entry_text}
 use Rattle.texts.specs.declared.line.Entry.{Entry}
 use Rattle.texts.specs.declared.line.Entry.TheVariants.{Letter, Pair}
@@ -24,18 +24,14 @@ found_text o ns = cond o.count (decimal (length ns) ++ 10 ∷ []) (lines_of (tak
 abbrev pub entry_line : Entry → List ℕ
 entry_line e = entry_text e ++ 10 ∷ []
 
--- it doesn't count on any level
-abbrev pub weighs_nothing : Weights → Bool
-weighs_nothing w = w.primary == 0 && (w.secondary == 0 && w.tertiary == 0)
-
 -- the line of a letter, if it weighs something
-abbrev pub letter_line : (letter : ℕ) → Weights → List ℕ
-letter_line a w = cond (weighs_nothing w) [] (entry_line (Letter a w))
+abbrev pub letter_line : letter.Letter → List ℕ
+letter_line e = cond (counts e.weights) (entry_line (Letter e)) []
 
 -- the first n letters of a table that weigh something, in the order of their numbers, each as its line
 unfoldable pub letters_text : Rules → (n : ℕ) → List ℕ
 letters_text t zero = []
-letters_text t (suc n) = letters_text t n ++ letter_line n (t.weighs (n ∷ []))
+letters_text t (suc n) = letters_text t n ++ letter_line (record { letter = n; weights = t.weighs (n ∷ []) })
 
 -- pairs, each as its line
 abbrev pub pairs_text : List pair.Pair → List ℕ
@@ -43,4 +39,4 @@ pairs_text ps = flat_map (λ p. entry_line (Pair p)) ps
 
 -- a table as the lines that make it: all letters that weigh something, and then its pairs, as they lie
 abbrev pub table_text : Rules → List pair.Pair → List ℕ
-table_text t ps = letters_text t 256 ++ pairs_text ps
+table_text t ps = letters_text t 65536 ++ pairs_text ps

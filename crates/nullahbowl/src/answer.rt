@@ -24,7 +24,7 @@ pub enum Answer<'l> {
 pub enum TakeError {
     // It is turned away.
     Refused(Fault),
-    // With its name there would be more names, or more letters of all names together, than 32 bits can count.
+    // With its name there would be more names, or more bytes of all names together, than 32 bits can count.
     Full,
     NoMemory,
 }

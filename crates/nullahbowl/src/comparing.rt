@@ -41,5 +41,5 @@ pub fn write_comparison<W: Write>(out: &mut W, older: Source, newer: Source) -> 
 fn changes(older: &Session, newer: &Session) -> Result<(), Change>
     ensures { ChangesOf older.now newer.now result }
 {
-    keeps_order(&older.table(), &newer.table(), &older.letters())
+    keeps_order(&older.table(), &newer.table(), older.letters())
 }

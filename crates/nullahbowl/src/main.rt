@@ -31,6 +31,7 @@ Reads lines from the files, or from standard input where none is named or the na
   key X              writes the sort key of the name X
   name X             the name X; so is every other line, whole
 
+Lines are in UTF-8, with letters up to U+FFFF. In letter and pair lines a letter may be written as U+ and its number: U+00FC.
 Where nothing is asked for, writes all names in order. With no letter and no pair line the built-in table is used: that of the
 valley, in which a to z weigh as they stand and ch stands behind c.
 What is turned away is said on standard error.

@@ -98,7 +98,7 @@ fn read_line<W: Write>(
         }
         Err(TakeError::Full) => {
             eprintln!(rt;
-                "{name}:{count}: there can't be more than 4294967295 names, nor more letters of all names together"
+                "{name}:{count}: there can't be more than 4294967295 names, nor more bytes of all names together"
             )?;
             Ok(Tally {
                 faults: 1,

@@ -1,6 +1,7 @@
 // What the lines read so far make, and what they ask for.
-ghost use Rattle.std.specs.Prelude.{◌≡◌, false};
+ghost use Rattle.std.specs.Prelude.{◌≡◌, false, true};
 ghost use Rattle.table.specs.Buffer.{buffer_rules};
+ghost use Rattle.table.specs.Rules.{in_utf8};
 ghost use Rattle.table.specs.Valley.{valley};
 
 mod taking;
@@ -13,9 +14,7 @@ pub struct Session {
     book: CatalogueBuf,
     // Whether a line of a table has been taken.
     own: bool,
-    // The letters that have a line of their own.
-    weighed: [bool; 256],
-    // The letters that a line of a table names: these, and those of pairs.
-    named: [bool; 256],
-    ghost valleys: { own ≡ false → buffer_rules book.table ≡ valley },
+    // The letters that the lines of a table name, those of pairs too; all, while none has been taken.
+    named: [bool; 65_536],
+    ghost valleys: { ((buffer_rules book.table).utf8 ≡ true) × (own ≡ false → buffer_rules book.table ≡ in_utf8 valley) },
 }

@@ -9,7 +9,7 @@ use crate::argument::Options;
 use catalogue::NamesFound;
 use std::io;
 use std::io::Write;
-use table::{Table, Weights};
+use table::{Letter, Table};
 use texts::Entry;
 
 // The names that are found, or how many there are.
@@ -44,22 +44,23 @@ pub fn write_table<W: Write>(out: &mut W, table: &Table) -> io::Result<()>
 
 // All letters that weigh something.
 fn write_letters<W: Write>(out: &mut W, table: &Table) -> io::Result<()>
-    ensures { OnOk result (Appends (W.Write.contents out.old) (W.Write.contents out.new) (letters_text (rules_of table.now) 256)) }
+    ensures { OnOk result (Appends (W.Write.contents out.old) (W.Write.contents out.new) (letters_text (rules_of table.now) 65536)) }
 {
-    for letter in 0..=255u8 {
-        write_letter(out, letter, table.letter(letter))?;
+    for letter in 0..=65_535u32 {
+        let weights = table.letter(letter);
+        write_letter(out, Letter { letter, weights })?;
     }
     Ok(())
 }
 
 // A letter, if it weighs something.
-fn write_letter<W: Write>(out: &mut W, letter: u8, weights: Weights) -> io::Result<()>
-    ensures { OnOk result (Appends (W.Write.contents out.old) (W.Write.contents out.new) (letter_line letter weights)) }
+fn write_letter<W: Write>(out: &mut W, letter: Letter) -> io::Result<()>
+    ensures { OnOk result (Appends (W.Write.contents out.old) (W.Write.contents out.new) (letter_line letter)) }
 {
-    if weights == Weights::from([0, 0, 0]) {
+    if !letter.weights.counts() {
         return Ok(());
     }
-    let entry = Entry::Letter(letter, weights);
+    let entry = Entry::Letter(letter);
     writeln!(out, "{entry}")
 }
 

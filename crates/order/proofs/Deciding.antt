@@ -1,32 +1,44 @@
 -- Deciding whether a newer table keeps old names in their order.
-use Rattle.std.proofs.Common.{◌≡◌, ℕ, zero, suc, slice_index_or, ◌+◌, ◌-◌, ◌<◌, ◌≤◌, Bool, true, false, ◌&&◌, ◌||◌, ◌==◌, List, [], ◌∷◌, length, Some, None, Ok, Err, Option, sym, refl, ap, ap₂, ◌∙◌, subst, ◌⊎◌, inl, inr, ⊎_elim, arith}
+use Rattle.std.proofs.Common.{◌≡◌, ℕ, zero, suc, slice_index_or, ◌+◌, ◌-◌, ◌<◌, ◌≤◌, Bool, true, false, not, ◌&&◌, ◌||◌, ◌==◌, List, [], ◌∷◌, length, is_some, Bor, Some, None, Ok, Err, Option, sym, refl, ap, ap₂, ◌∙◌, subst, ◌⊎◌, inl, inr, ⊎_elim, arith}
+use Rattle.std.specs.Bool.{beq}
 use Rattle.std.specs.Cmp.{both_ways}
 use Rattle.std.specs.List.{list_all, slice_get}
+use Rattle.std.specs.Option.{option_map}
+use Rattle.table.specs.declared.piece.Letter as table_letter
 use Rattle.table.specs.declared.piece.Pair as table_pair
 use Rattle.std.specs.Ordering.{nat_cmp}
-use Rattle.std.proofs.lemmas.Bool.{cases_lt}
+use Rattle.std.proofs.lemmas.Bool.{cases_lt, le-ltb, lt-ltb, or_parts, true≢false}
 use Rattle.std.proofs.lemmas.Bool.Decides.{nat_tests}
-use Rattle.std.proofs.lemmas.Option.{cond_some, none-some, same_Some, slice_get_cases}
+use Rattle.std.proofs.lemmas.Option.{cond_some, none-some, same_Some, slice_get_cases, slice_get_within}
 use Rattle.keys.specs.declared.level.Level.{Level}
 use Rattle.keys.specs.declared.level.Level.TheVariants.{Primary, Secondary, Tertiary}
 use Rattle.keys.specs.Rows.{on, weight}
-use Rattle.table.specs.Meaning.{pairs_of, rules_of}
-use Rattle.table.specs.Rules.{Rules}
+use Rattle.table.specs.Meaning.{letters_of, pairs_of, rules_of}
+use Rattle.table.specs.Rules.{Rules, counts}
 use Rattle.table.specs.declared.view.Table.{Table}
-use Rattle.table.proofs.Lawful.{listed, listed_joins}
+use Rattle.table.proofs.Lawful.{letters_listed, listed, listed_joins}
+use Rattle.keys.proofs.Stepping.{none_on}
 use Rattle.order.specs.Changes.{Changed, Decided, FirstOf, InBoth, SameOrder, SameZero, Tested, WeighedIn, level_place}
 use Rattle.order.proofs.Keeping.{newer_tables}
 use Rattle.order.specs.Newer.{Keeps, SameRuns, is_piece, old_piece}
-use Rattle.order.specs.Pieces.{NextPiece, NoneBetween, letters_of, old_at, old_in, places, run_at}
+use Rattle.order.specs.Pieces.{NextPiece, NoneBetween, run_in, old_at, old_in, places, run_at}
 use Rattle.order.specs.declared.newer.Change.{Change}
-use Rattle.order.specs.declared.newer.Change.TheVariants.{Joins, Counts, Order}
+use Rattle.order.specs.declared.newer.Change.TheVariants.{Utf8, Joins, Counts, Order}
 use Rattle.order.specs.declared.newer.Weighed.{Weighed}
 use Rattle.order.specs.declared.piece.OldPieces.{OldPieces}
 use Rattle.order.specs.declared.piece.Piece.{Piece}
 
+-- before the end of a list something stands at each place
+pub there_is : {X : Type 0} (xs : List X) (k : ℕ) → k < length xs → slice_get xs k ≡ None → ⊥
+there_is xs k l e = ⊎_elim (λ q. none-some q.0 (sym e ∙ q.2)) (λ q. omega (arith, l, q.0)) (slice_get_cases xs k).1
+
 -- two letters are one only where they are two
 joined_two : (t : Table) (run : List ℕ) → (rules_of t).joins run ≡ true → length run ≡ 2
 joined_two t run e = let q = listed t run e in ap length q.4
+
+-- a run that weighs something, or is one together: the others of a table's pieces it does not list
+abbrev pub is_listed : Rules → List ℕ → Bool
+is_listed t run = counts (t.weighs run) || t.joins run
 
 module _ (s : OldPieces) where
   abbrev old : ℕ → Bool
@@ -35,33 +47,63 @@ module _ (s : OldPieces) where
   abbrev rules : Rules
   rules = rules_of s.table.now
 
-  -- each old piece stands at some place
-  at_letter : (a : ℕ) → list_all old (a ∷ []) ≡ true → (j : ℕ) × (j < places s.table.now) × (old_at s j ≡ Some (a ∷ []))
-  at_letter a o = (a, grind (arith, nat_tests), grind (arith, nat_tests))
+  -- each old piece that is listed stands at some place
+  at_letter : (a : ℕ) → list_all old (a ∷ []) ≡ true → counts (rules.weighs (a ∷ [])) ≡ true → (j : ℕ) × (j < places s.table.now) × (old_at s j ≡ Some (a ∷ []))
+  at_letter a o c =
+      let q = (letters_listed s.table.now).1 a c in
+      let l = slice_get_within (letters_of s.table.now) q.0 q.1 q.2 in
+      (q.0, omega arith, let g = q.2 in let r = ap (λ x. x ∷ []) q.3 in let t = lt-ltb q.0 (length (letters_of s.table.now)) l in grind (arith, nat_tests))
 
   at_run : (run : List ℕ) → list_all old run ≡ true → rules.joins run ≡ true → (j : ℕ) × (j < places s.table.now) × (old_at s j ≡ Some run)
   at_run run o e =
       let q = listed s.table.now run e in
-      (256 + q.0, omega (arith, q.2), let g = q.3 in let r = q.4 in grind (arith, nat_tests))
+      let n = length (letters_of s.table.now) in
+      (n + q.0, omega (arith, q.2), let g = q.3 in let r = q.4 in let m : n + q.0 - n ≡ q.0 = omega arith in let t = le-ltb (n + q.0) n (omega arith) in grind (arith, nat_tests))
 
-  complete : (run : List ℕ) → old_piece old rules run ≡ true → (j : ℕ) × (j < places s.table.now) × (old_at s j ≡ Some run)
-  complete [] o = at_run [] (grind arith) (grind arith)
-  complete (a ∷ []) o = at_letter a (grind arith)
-  complete (a ∷ (b ∷ run)) o = at_run (a ∷ (b ∷ run)) (grind arith) (grind (arith, nat_tests))
+  complete : (run : List ℕ) → old_piece old rules run ≡ true → is_listed rules run ≡ true → (j : ℕ) × (j < places s.table.now) × (old_at s j ≡ Some run)
+  complete [] o c = at_run [] (grind arith) (grind arith)
+  complete (a ∷ []) o c = one (counts (rules.weighs (a ∷ []))) refl
+    where
+      one : (b : Bool) → counts (rules.weighs (a ∷ [])) ≡ b → (j : ℕ) × (j < places s.table.now) × (old_at s j ≡ Some (a ∷ []))
+      one true e = at_letter a (grind arith) e
+      one false e = at_run (a ∷ []) (grind arith) (sym (ap (λ b. b || rules.joins (a ∷ [])) e) ∙ c)
+  complete (a ∷ (b ∷ run)) o c = at_run (a ∷ (b ∷ run)) (grind arith) (grind (arith, nat_tests))
 
   -- and what stands at one is an old piece
   piece_at : (j : ℕ) → j < places s.table.now → is_piece rules (run_at s.table.now j) ≡ true
-  piece_at j l = ⊎_elim (λ h. grind (arith, nat_tests)) (λ h. go (slice_get (pairs_of s.table.now) (j - 256)) refl h) (cases_lt j 256)
+  piece_at j l = ⊎_elim
+      (λ h. one (slice_get (letters_of s.table.now) j) refl h)
+      (λ h. go (slice_get (pairs_of s.table.now) (j - length (letters_of s.table.now))) refl h) (cases_lt j (length (letters_of s.table.now)))
     where
-      go : (o : Option table_pair.Pair) → slice_get (pairs_of s.table.now) (j - 256) ≡ o → 256 ≤ j → is_piece rules (run_at s.table.now j) ≡ true
+      one : (o : Option table_letter.Letter) → slice_get (letters_of s.table.now) j ≡ o → j < length (letters_of s.table.now) → is_piece rules (run_at s.table.now j) ≡ true
+      one None e h =
+          absurd (⊎_elim (λ q. none-some q.0 (sym e ∙ q.2)) (λ q. omega (arith, h, q.0)) (slice_get_cases (letters_of s.table.now) j).1)
+      one (Some p) e h = let t = lt-ltb j (length (letters_of s.table.now)) h in grind (arith, nat_tests)
+
+      go : (o : Option table_pair.Pair) → slice_get (pairs_of s.table.now) (j - length (letters_of s.table.now)) ≡ o → length (letters_of s.table.now) ≤ j → is_piece rules (run_at s.table.now j) ≡ true
       go None e h =
-          absurd (⊎_elim (λ q. none-some q.0 (sym e ∙ q.2)) (λ q. omega (arith, l, h, q.0)) (slice_get_cases (pairs_of s.table.now) (j - 256)).1)
-      go (Some p) e h = let q = listed_joins s.table.now (j - 256) p e in grind (arith, nat_tests)
+          absurd (⊎_elim (λ q. none-some q.0 (sym e ∙ q.2)) (λ q. omega (arith, l, h, q.0)) (slice_get_cases (pairs_of s.table.now) (j - length (letters_of s.table.now))).1)
+      go (Some p) e h = let q = listed_joins s.table.now (j - length (letters_of s.table.now)) p e in let t = le-ltb j (length (letters_of s.table.now)) h in grind (arith, nat_tests)
 
   sound : (j : ℕ) (q : List ℕ) → j < places s.table.now → old_at s j ≡ Some q → old_piece old rules q ≡ true
   sound j q l e =
       let d = cond_some (list_all old (run_at s.table.now j)) (run_at s.table.now j) q e in
       subst (λ r. old_piece old rules r ≡ true) d.1 (ap₂ (λ a b. a && b) d.0 (piece_at j l))
+
+-- one place more is looked at, all up to it holding none
+module _ (s : OldPieces) (b : Bor Table) (m : Bor (List Bool)) (k : ℕ) (e : b ≡ s.table) (f : m ≡ s.old) (up : s.place ≤ k) (none : NoneBetween s s.place k) where
+  here : (r : Option Piece) → option_map run_in r ≡ old_at (record { table = b; old = m; place = k }) k → option_map run_in r ≡ old_at s k
+  here r h = h ∙ ap₂ (λ b m. old_at (record { table = b; old = m; place = k }) k) e f
+
+  pub next_there : (r : Option Piece) → k < places b.now → option_map run_in r ≡ old_at (record { table = b; old = m; place = k }) k → is_some r ≡ true
+      → NextPiece s r (record { table = b; old = m; place = k + 1 })
+  next_there None l h i = absurd (true≢false (sym i))
+  next_there (Some p) l h i = (e, f, (k, up, subst (λ n. k < n) (ap (λ t. places t.now) e) l, none, sym (here (Some p) h), refl))
+
+  pub none_there : (r : Option Piece) → option_map run_in r ≡ old_at (record { table = b; old = m; place = k }) k → is_some r ≡ false → NoneBetween s s.place (k + 1)
+  none_there None h i j from to =
+      ⊎_elim (λ l. none j from l) (λ l. let q : j ≡ k = omega (arith, l, to) in ap (old_at s) q ∙ sym (here None h)) (cases_lt j k)
+  none_there (Some p) h i j from to = absurd (true≢false i)
 
 -- a walk over the old pieces of a table: of those met so far P holds
 abbrev pub Walked : Table → (marks : List Bool) → (List ℕ → Type 0) → OldPieces → Type 0
@@ -69,7 +111,7 @@ Walked b m P s = (s.table.now ≡ b) × (s.old.now ≡ m) × ((j : ℕ) (q : Lis
 
 module _ (b : Table) (m : List Bool) (P : List ℕ → Type 0) (s : OldPieces) where
   -- one more is met
-  pub walked_more : (p : Piece) (t : OldPieces) → NextPiece s (Some p) t → Walked b m P s → P (letters_of p) → Walked b m P t
+  pub walked_more : (p : Piece) (t : OldPieces) → NextPiece s (Some p) t → Walked b m P s → P (run_in p) → Walked b m P t
   walked_more p t n w g = (ap (λ x. x.now) n.0 ∙ w.0, ap (λ x. x.now) n.1 ∙ w.1, go)
     where
       go : (j : ℕ) (q : List ℕ) → j < t.place → old_at t j ≡ Some q → P q
@@ -85,14 +127,27 @@ module _ (b : Table) (m : List Bool) (P : List ℕ → Type 0) (s : OldPieces) w
           (cases_lt j s.place)
 
   -- all are
-  pub walked_all : NoneBetween s s.place (places s.table.now) → Walked b m P s → (run : List ℕ) → old_piece (old_in m) (rules_of b) run ≡ true → P run
-  walked_all n w run o =
-      let c = complete s run (ap₂ (λ m b. old_piece (old_in m) (rules_of b) run) w.1 w.0 ∙ o) in
+  pub walked_all : NoneBetween s s.place (places s.table.now) → Walked b m P s → (run : List ℕ) → old_piece (old_in m) (rules_of b) run ≡ true → is_listed (rules_of b) run ≡ true → P run
+  walked_all n w run o d =
+      let c = complete s run (ap₂ (λ m b. old_piece (old_in m) (rules_of b) run) w.1 w.0 ∙ o) (ap (λ b. is_listed (rules_of b) run) w.0 ∙ d) in
       ⊎_elim (λ k. w.2 c.0 run k c.2) (λ k. absurd (none-some run (sym (n c.0 k c.1) ∙ c.2))) (cases_lt c.0 s.place)
 
   -- what is met is an old piece
-  pub met : (p : Piece) (t : OldPieces) → NextPiece s (Some p) t → Walked b m P s → old_piece (old_in m) (rules_of b) (letters_of p) ≡ true
-  met p t n w = ap₂ (λ m b. old_piece (old_in m) (rules_of b) (letters_of p)) (sym w.1) (sym w.0) ∙ sound s n.2.0 (letters_of p) n.2.2 n.2.4
+  pub met : (p : Piece) (t : OldPieces) → NextPiece s (Some p) t → Walked b m P s → old_piece (old_in m) (rules_of b) (run_in p) ≡ true
+  met p t n w = ap₂ (λ m b. old_piece (old_in m) (rules_of b) (run_in p)) (sym w.1) (sym w.0) ∙ sound s n.2.0 (run_in p) n.2.2 n.2.4
+
+-- whether both tables read bytes the same way
+pub read_alike : (x y a b : Bool) → x ≡ a → y ≡ b → not (beq x y) ≡ false → b ≡ a
+read_alike true true a b e f h = sym f ∙ e
+read_alike true false a b e f h = absurd (true≢false h)
+read_alike false true a b e f h = absurd (true≢false h)
+read_alike false false a b e f h = sym f ∙ e
+
+pub read_otherwise : (x y a b : Bool) → x ≡ a → y ≡ b → not (beq x y) ≡ true → b ≡ a → ⊥
+read_otherwise true true a b e f h q = true≢false (sym h)
+read_otherwise true false a b e f h q = true≢false (e ∙ (sym q ∙ sym f))
+read_otherwise false true a b e f h q = true≢false (f ∙ (q ∙ sym e))
+read_otherwise false false a b e f h q = true≢false (sym h)
 
 -- what holds of the levels tried so far holds of those in front of the next
 pub levels_before : (P : Level → Type 0) (i : ℕ) → i < 3 → ((k : ℕ) → k < i → P (slice_index_or (Primary ∷ (Secondary ∷ (Tertiary ∷ []))) k Primary))
@@ -115,23 +170,29 @@ module _ (marks : List Bool) (t u : Rules) where
   abbrev pub Counted : List ℕ → Type 0
   Counted q = (is_piece u q ≡ true) × ((l : Level) → (weight l u q == 0) ≡ (weight l t q == 0))
 
-  -- it stands to each other one as before
+  -- it stands to each other one that is listed as before
   abbrev pub Placed : List ℕ → Type 0
-  Placed q = (r : List ℕ) → old_piece (old_in marks) t r ≡ true → (l : Level) → nat_cmp (weight l u q) (weight l u r) ≡ nat_cmp (weight l t q) (weight l t r)
+  Placed q =
+      (r : List ℕ) → old_piece (old_in marks) t r ≡ true → is_listed t r ≡ true
+      → (l : Level) → nat_cmp (weight l u q) (weight l u r) ≡ nat_cmp (weight l t q) (weight l t r)
 
   -- what was weighed
   module _ (p : Piece) (w : Weighed) (g : WeighedIn t u p (Ok w)) where
-    older_is : (is_piece t (letters_of p) ≡ true) × (t.weighs (letters_of p) ≡ w.older)
-    older_is = cond_some (is_piece t (letters_of p)) (t.weighs (letters_of p)) w.older g.1
+    older_is : (is_piece t (run_in p) ≡ true) × (t.weighs (run_in p) ≡ w.older)
+    older_is = cond_some (is_piece t (run_in p)) (t.weighs (run_in p)) w.older g.1
 
-    newer_is : (is_piece u (letters_of p) ≡ true) × (u.weighs (letters_of p) ≡ w.newer)
-    newer_is = cond_some (is_piece u (letters_of p)) (u.weighs (letters_of p)) w.newer g.2
+    newer_is : (is_piece u (run_in p) ≡ true) × (u.weighs (run_in p) ≡ w.newer)
+    newer_is = cond_some (is_piece u (run_in p)) (u.weighs (run_in p)) w.newer g.2
+
+  pub piece_of_older : (p : Piece) (w : Weighed) → WeighedIn t u p (Ok w) → is_piece t (run_in p) ≡ true
+  piece_of_older p w g = (older_is p w g).0
 
   -- a change that is one speaks against the tests
   refuted : (c : Change) → Changed (old_in marks) t u c → Keeps (old_in marks) t u → ⊥
-  refuted (Joins p) h k = h.1 (k.runs (letters_of p) h.0)
-  refuted (Counts p l) h k = h.1 ((k.levels l).zeros (letters_of p) h.0.0)
-  refuted (Order p q l) h k = h.2 ((k.levels l).order (letters_of p) (letters_of q) h.0.0 h.1.0)
+  refuted Utf8 h k = h k.reads
+  refuted (Joins p) h k = h.1 (k.runs (run_in p) h.0)
+  refuted (Counts p l) h k = h.1 ((k.levels l).zeros (run_in p) h.0.0)
+  refuted (Order p q l) h k = h.2 ((k.levels l).order (run_in p) (run_in q) h.0.0 h.1.0)
 
   told : (c : Change) → Changed (old_in marks) t u c → FirstOf (old_in marks) t u c → Decided (old_in marks) t u (Err c)
   told c h f = (h, f, refuted c h)
@@ -142,51 +203,55 @@ module _ (marks : List Bool) (t u : Rules) where
   a_piece : (run : List ℕ) (b : Rules) → old_piece (old_in marks) b run ≡ true → is_piece b run ≡ true
   a_piece run b o = grind arith
 
-  both : (p : Piece) → old_piece (old_in marks) t (letters_of p) ≡ true → (w : Weighed) → WeighedIn t u p (Ok w) → InBoth (old_in marks) t u p
-  both p o w g = (o, ap₂ (λ a b. a && b) (all_old (letters_of p) t o) (newer_is p w g).0)
+  both : (p : Piece) → old_piece (old_in marks) t (run_in p) ≡ true → (w : Weighed) → WeighedIn t u p (Ok w) → InBoth (old_in marks) t u p
+  both p o w g = (o, ap₂ (λ a b. a && b) (all_old (run_in p) t o) (newer_is p w g).0)
+
+  -- an old piece of the newer table that is a piece of the older too
+  pub old_too : (run : List ℕ) → old_piece (old_in marks) u run ≡ true → is_piece t run ≡ true → old_piece (old_in marks) t run ≡ true
+  old_too run o p = ap₂ (λ a b. a && b) (all_old run u o) p
 
   -- letters that are a piece in only one of the tables are one in only one
   parted : (one j k : Bool) → (one || j) && (one || k) ≡ false → ((one || j ≡ true) ⊎ (one || k ≡ true)) → k ≡ j → ⊥
   parted one j k e f g = grind arith
 
-  only_one : (p : Piece) (c : Change) → list_all (old_in marks) (letters_of p) ≡ true → ((is_piece t (letters_of p) ≡ true) ⊎ (is_piece u (letters_of p) ≡ true))
+  only_one : u.utf8 ≡ t.utf8 → (p : Piece) (c : Change) → list_all (old_in marks) (run_in p) ≡ true → ((is_piece t (run_in p) ≡ true) ⊎ (is_piece u (run_in p) ≡ true))
       → WeighedIn t u p (Err c) → Decided (old_in marks) t u (Err c)
-  only_one p c o f g =
-      let run = letters_of p in
-      subst (λ c. Decided (old_in marks) t u (Err c)) (sym g.0) (told (Joins p) (o, parted (length run == 1) (t.joins run) (u.joins run) g.1 f) tt)
+  only_one e p c o f g =
+      let run = run_in p in
+      subst (λ c. Decided (old_in marks) t u (Err c)) (sym g.0) (told (Joins p) (o, parted (length run == 1) (t.joins run) (u.joins run) g.1 f) e)
 
-  pub in_older_only : (p : Piece) (c : Change) → old_piece (old_in marks) t (letters_of p) ≡ true → WeighedIn t u p (Err c) → Decided (old_in marks) t u (Err c)
-  in_older_only p c o g = only_one p c (all_old (letters_of p) t o) (inl (a_piece (letters_of p) t o)) g
+  pub in_older_only : u.utf8 ≡ t.utf8 → (p : Piece) (c : Change) → old_piece (old_in marks) t (run_in p) ≡ true → WeighedIn t u p (Err c) → Decided (old_in marks) t u (Err c)
+  in_older_only e p c o g = only_one e p c (all_old (run_in p) t o) (inl (a_piece (run_in p) t o)) g
 
-  pub in_newer_only : (p : Piece) (c : Change) → old_piece (old_in marks) u (letters_of p) ≡ true → WeighedIn t u p (Err c) → Decided (old_in marks) t u (Err c)
-  in_newer_only p c o g = only_one p c (all_old (letters_of p) u o) (inr (a_piece (letters_of p) u o)) g
+  pub in_newer_only : u.utf8 ≡ t.utf8 → (p : Piece) (c : Change) → old_piece (old_in marks) u (run_in p) ≡ true → WeighedIn t u p (Err c) → Decided (old_in marks) t u (Err c)
+  in_newer_only e p c o g = only_one e p c (all_old (run_in p) u o) (inr (a_piece (run_in p) u o)) g
 
   -- no old letters came to be one
   abbrev pub NoneJoined : Type 0
   NoneJoined = (run : List ℕ) → list_all (old_in marks) run ≡ true → u.joins run ≡ true → t.joins run ≡ true
 
   -- a piece weighs 0 where it did, as it was weighed
-  zero_as : (p : Piece) (w : Weighed) → WeighedIn t u p (Ok w) → (l : Level) → SameZero w l → (weight l u (letters_of p) == 0) ≡ (weight l t (letters_of p) == 0)
+  zero_as : (p : Piece) (w : Weighed) → WeighedIn t u p (Ok w) → (l : Level) → SameZero w l → (weight l u (run_in p) == 0) ≡ (weight l t (run_in p) == 0)
   zero_as p w g l z = ap (λ x. on l x == 0) (newer_is p w g).1 ∙ (z ∙ ap (λ x. on l x == 0) (sym (older_is p w g).1))
 
-  pub zero_changed : (p : Piece) (w : Weighed) (c : Change) → NoneJoined → old_piece (old_in marks) t (letters_of p) ≡ true → WeighedIn t u p (Ok w)
+  pub zero_changed : u.utf8 ≡ t.utf8 → (p : Piece) (w : Weighed) (c : Change) → NoneJoined → old_piece (old_in marks) t (run_in p) ≡ true → WeighedIn t u p (Ok w)
       → Tested (SameZero w) (Counts w.piece) (Err c) → Decided (old_in marks) t u (Err c)
-  zero_changed p w c j o g (l, is, not, first) =
+  zero_changed e p w c j o g (l, is, not, first) =
       subst (λ c. Decided (old_in marks) t u (Err c)) (sym (is ∙ ap (λ x. Counts x l) g.0))
       (told (Counts p l) (both p o w g, λ f. not (ap (λ x. on l x == 0) (sym (newer_is p w g).1) ∙ (f ∙ ap (λ x. on l x == 0) (older_is p w g).1)))
-      (j, λ m k. zero_as p w g m (first m k)))
+      (e, j, λ m k. zero_as p w g m (first m k)))
 
   -- two pieces stand as before, as they were weighed
   order_as : (p q : Piece) (v w : Weighed) → WeighedIn t u p (Ok v) → WeighedIn t u q (Ok w) → (l : Level) → SameOrder v w l
-      → nat_cmp (weight l u (letters_of p)) (weight l u (letters_of q)) ≡ nat_cmp (weight l t (letters_of p)) (weight l t (letters_of q))
+      → nat_cmp (weight l u (run_in p)) (weight l u (run_in q)) ≡ nat_cmp (weight l t (run_in p)) (weight l t (run_in q))
   order_as p q v w g h l z =
       ap₂ (λ x y. nat_cmp (on l x) (on l y)) (newer_is p v g).1 (newer_is q w h).1
       ∙ (z ∙ ap₂ (λ x y. nat_cmp (on l x) (on l y)) (sym (older_is p v g).1) (sym (older_is q w h).1))
 
-  pub order_changed : (p q : Piece) (v w : Weighed) (c : Change) → SameRuns (old_in marks) t u
-      → ((run : List ℕ) → old_piece (old_in marks) t run ≡ true → Counted run) → old_piece (old_in marks) t (letters_of p) ≡ true → old_piece (old_in marks) t (letters_of q) ≡ true
+  pub order_changed : u.utf8 ≡ t.utf8 → (p q : Piece) (v w : Weighed) (c : Change) → SameRuns (old_in marks) t u
+      → ((run : List ℕ) → old_piece (old_in marks) t run ≡ true → Counted run) → old_piece (old_in marks) t (run_in p) ≡ true → old_piece (old_in marks) t (run_in q) ≡ true
       → WeighedIn t u p (Ok v) → WeighedIn t u q (Ok w) → Tested (SameOrder v w) (Order v.piece w.piece) (Err c) → Decided (old_in marks) t u (Err c)
-  order_changed p q v w c s z o r g h (l, is, not, first) =
+  order_changed e p q v w c s z o r g h (l, is, not, first) =
       subst (λ c. Decided (old_in marks) t u (Err c)) (sym (is ∙ ap₂ (λ x y. Order x y l) g.0 h.0))
       (told (Order p q l) (
         both p o v g,
@@ -195,26 +260,87 @@ module _ (marks : List Bool) (t u : Rules) where
             ap₂ (λ x y. nat_cmp (on l x) (on l y)) (sym (newer_is p v g).1) (sym (newer_is q w h).1)
             ∙ (f ∙ ap₂ (λ x y. nat_cmp (on l x) (on l y)) (older_is p v g).1 (older_is q w h).1)
             ),
-      ) (s, (λ m run e. (z run e).1 m), λ m k. order_as p q v w g h m (first m k)))
+      ) (e, s, (λ m run i. (z run i).1 m), λ m k. order_as p q v w g h m (first m k)))
 
-  pub stands : (q : Piece) (v w : Weighed) → WeighedIn t u q (Ok w) → Tested (SameOrder v w) (Order v.piece w.piece) (Ok tt) → StandsTo v (letters_of q)
+  pub stands : (q : Piece) (v w : Weighed) → WeighedIn t u q (Ok w) → Tested (SameOrder v w) (Order v.piece w.piece) (Ok tt) → StandsTo v (run_in q)
   stands q v w h e l = ap (λ x. nat_cmp (on l v.newer) (on l x)) (newer_is q w h).1 ∙ (e l ∙ ap (λ x. nat_cmp (on l v.older) (on l x)) (sym (older_is q w h).1))
 
-  pub counted : (p : Piece) (w : Weighed) → WeighedIn t u p (Ok w) → Tested (SameZero w) (Counts w.piece) (Ok tt) → Counted (letters_of p)
+  pub counted : (p : Piece) (w : Weighed) → WeighedIn t u p (Ok w) → Tested (SameZero w) (Counts w.piece) (Ok tt) → Counted (run_in p)
   counted p w g z = (
     (newer_is p w g).0,
     λ l. ap (λ x. on l x == 0) (newer_is p w g).1 ∙ (z l ∙ ap (λ x. on l x == 0) (sym (older_is p w g).1)),
   )
 
-  pub placed : (p : Piece) (w : Weighed) → WeighedIn t u p (Ok w) → ((r : List ℕ) → old_piece (old_in marks) t r ≡ true → StandsTo w r) → Placed (letters_of p)
-  placed p w g s r o l =
-      ap (λ x. nat_cmp (on l x) (weight l u r)) (newer_is p w g).1 ∙ (s r o l ∙ ap (λ x. nat_cmp (on l x) (weight l t r)) (sym (older_is p w g).1))
+  pub placed : (p : Piece) (w : Weighed) → WeighedIn t u p (Ok w) → ((r : List ℕ) → old_piece (old_in marks) t r ≡ true → is_listed t r ≡ true → StandsTo w r) → Placed (run_in p)
+  placed p w g s r o i l =
+      ap (λ x. nat_cmp (on l x) (weight l u r)) (newer_is p w g).1 ∙ (s r o i l ∙ ap (λ x. nat_cmp (on l x) (weight l t r)) (sym (older_is p w g).1))
 
 module _ (marks : List Bool) (older newer : Table) where
   -- what is one in a table is one in the other
   joined_too : (one other : Table) → ((run : List ℕ) → old_piece (old_in marks) (rules_of one) run ≡ true → is_piece (rules_of other) run ≡ true)
       → (run : List ℕ) → list_all (old_in marks) run ≡ true → (rules_of one).joins run ≡ true → (rules_of other).joins run ≡ true
   joined_too one other h run o e = let two = joined_two one run e in let k = h run in grind (arith, nat_tests)
+
+  -- of the letters that a table doesn't list each is a piece
+  pub all_pieces : ((run : List ℕ) → old_piece (old_in marks) (rules_of newer) run ≡ true → is_listed (rules_of newer) run ≡ true → is_piece (rules_of older) run ≡ true)
+      → (run : List ℕ) → old_piece (old_in marks) (rules_of newer) run ≡ true → is_piece (rules_of older) run ≡ true
+  all_pieces a run o = go (length run == 1) refl
+    where
+      go : (b : Bool) → (length run == 1) ≡ b → is_piece (rules_of older) run ≡ true
+      go true e = grind (arith, nat_tests)
+      go false e = a run o (grind (arith, nat_tests))
+
+  -- and weighs nothing under either table, or is listed by the newer
+  pub all_counted : ((run : List ℕ) → old_piece (old_in marks) (rules_of older) run ≡ true → is_listed (rules_of older) run ≡ true → Counted marks (rules_of older) (rules_of newer) run)
+      → ((run : List ℕ) → old_piece (old_in marks) (rules_of newer) run ≡ true → is_listed (rules_of newer) run ≡ true → Counted marks (rules_of older) (rules_of newer) run)
+      → (run : List ℕ) → old_piece (old_in marks) (rules_of older) run ≡ true → Counted marks (rules_of older) (rules_of newer) run
+  all_counted a n run o = go (is_listed (rules_of older) run) refl
+    where
+      there : is_listed (rules_of older) run ≡ false → (length run == 1) ≡ true
+      there e = grind (arith, nat_tests)
+
+      neither : counts ((rules_of older).weighs run) ≡ false → counts ((rules_of newer).weighs run) ≡ false → (length run == 1) ≡ true → Counted marks (rules_of older) (rules_of newer) run
+      neither e f h = (
+        grind (arith, nat_tests),
+        λ l. ap (λ x. x == 0) (none_on ((rules_of newer).weighs run) l f ∙ sym (none_on ((rules_of older).weighs run) l e)),
+      )
+
+      new : (b : Bool) → counts ((rules_of newer).weighs run) ≡ b → is_listed (rules_of older) run ≡ false → Counted marks (rules_of older) (rules_of newer) run
+      new true e f = let h = there f in n run (grind (arith, nat_tests)) (grind (arith, nat_tests))
+      new false e f = neither (or_parts _ _ f).0 e (there f)
+
+      go : (b : Bool) → is_listed (rules_of older) run ≡ b → Counted marks (rules_of older) (rules_of newer) run
+      go true e = a run o e
+      go false e = new (counts ((rules_of newer).weighs run)) refl e
+
+  -- what weighs nothing stands to each other piece as before
+  zero_front : (x y v w : ℕ) → x ≡ 0 → v ≡ 0 → (w == 0) ≡ (y == 0) → nat_cmp v w ≡ nat_cmp x y
+  zero_front x y v w a b e = grind (arith, nat_tests)
+
+  zero_behind : (x y v w : ℕ) → y ≡ 0 → w ≡ 0 → (v == 0) ≡ (x == 0) → nat_cmp v w ≡ nat_cmp x y
+  zero_behind x y v w a b e = grind (arith, nat_tests)
+
+  still_zero : (x y : ℕ) → x ≡ 0 → (y == 0) ≡ (x == 0) → y ≡ 0
+  still_zero x y a e = grind (arith, nat_tests)
+
+  pub all_placed : ((run : List ℕ) → old_piece (old_in marks) (rules_of older) run ≡ true → Counted marks (rules_of older) (rules_of newer) run)
+      → ((run : List ℕ) → old_piece (old_in marks) (rules_of older) run ≡ true → is_listed (rules_of older) run ≡ true → Placed marks (rules_of older) (rules_of newer) run)
+      → (p q : List ℕ) → old_piece (old_in marks) (rules_of older) p ≡ true → old_piece (old_in marks) (rules_of older) q ≡ true → (l : Level)
+      → nat_cmp (weight l (rules_of newer) p) (weight l (rules_of newer) q) ≡ nat_cmp (weight l (rules_of older) p) (weight l (rules_of older) q)
+  all_placed b d p q o r l = go (is_listed (rules_of older) p) (is_listed (rules_of older) q) refl refl
+    where
+      none : (run : List ℕ) → is_listed (rules_of older) run ≡ false → weight l (rules_of older) run ≡ 0
+      none run e = none_on ((rules_of older).weighs run) l (or_parts _ _ e).0
+
+      go : (x y : Bool) → is_listed (rules_of older) p ≡ x → is_listed (rules_of older) q ≡ y
+          → nat_cmp (weight l (rules_of newer) p) (weight l (rules_of newer) q) ≡ nat_cmp (weight l (rules_of older) p) (weight l (rules_of older) q)
+      go true true e f = d p o e q r f l
+      go true false e f =
+          zero_behind (weight l (rules_of older) p) (weight l (rules_of older) q) (weight l (rules_of newer) p) (weight l (rules_of newer) q)
+          (none q f) (still_zero _ _ (none q f) ((b q r).1 l)) ((b p o).1 l)
+      go false y e f =
+          zero_front (weight l (rules_of older) p) (weight l (rules_of older) q) (weight l (rules_of newer) p) (weight l (rules_of newer) q)
+          (none p e) (still_zero _ _ (none p e) ((b p o).1 l)) ((b q r).1 l)
 
   pub none_joined : ((run : List ℕ) → old_piece (old_in marks) (rules_of newer) run ≡ true → is_piece (rules_of older) run ≡ true)
       → NoneJoined marks (rules_of older) (rules_of newer)
@@ -225,11 +351,13 @@ module _ (marks : List Bool) (older newer : Table) where
       → SameRuns (old_in marks) (rules_of older) (rules_of newer)
   runs_kept a b run o = both_ways ((rules_of newer).joins run) ((rules_of older).joins run) (joined_too newer older a run o) (joined_too older newer (λ r p. (b r p).0) run o)
 
-  pub all_kept : ((run : List ℕ) → old_piece (old_in marks) (rules_of newer) run ≡ true → is_piece (rules_of older) run ≡ true)
+  pub all_kept : (rules_of newer).utf8 ≡ (rules_of older).utf8
+      → ((run : List ℕ) → old_piece (old_in marks) (rules_of newer) run ≡ true → is_piece (rules_of older) run ≡ true)
       → ((run : List ℕ) → old_piece (old_in marks) (rules_of older) run ≡ true → Counted marks (rules_of older) (rules_of newer) run)
-      → ((run : List ℕ) → old_piece (old_in marks) (rules_of older) run ≡ true → Placed marks (rules_of older) (rules_of newer) run)
+      → ((run : List ℕ) → old_piece (old_in marks) (rules_of older) run ≡ true → is_listed (rules_of older) run ≡ true → Placed marks (rules_of older) (rules_of newer) run)
       → Decided (old_in marks) (rules_of older) (rules_of newer) (Ok tt)
-  all_kept a b d = let k : Keeps (old_in marks) (rules_of older) (rules_of newer) = record {
+  all_kept e a b d = let k : Keeps (old_in marks) (rules_of older) (rules_of newer) = record {
+    reads = e;
     runs = runs_kept a b;
-    levels = λ l. record { zeros = λ p o. (b p o).1 l; order = λ p q o r. d p o q r l };
+    levels = λ l. record { zeros = λ p o. (b p o).1 l; order = λ p q o r. all_placed b d p q o r l };
   } in (k, newer_tables (old_in marks) (rules_of older) (rules_of newer) k)

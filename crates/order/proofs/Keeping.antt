@@ -6,7 +6,9 @@ use Rattle.std.proofs.lemmas.Bool.Decides.{nat_tests}
 use Rattle.keys.specs.declared.level.Level.{Level}
 use Rattle.keys.specs.declared.level.Level.TheVariants.{Primary, Secondary, Tertiary}
 use Rattle.keys.specs.Pieces.{pieces}
-use Rattle.keys.specs.Rows.{row, weight, without_zeros}
+use Rattle.keys.specs.Letters.{letters_in}
+use Rattle.keys.specs.Rows.{row, row_of, weight, without_zeros}
+use Rattle.keys.proofs.Pieces.{same_pieces}
 use Rattle.table.specs.Rules.{Rules}
 use Rattle.order.specs.Rows.{row_order}
 use Rattle.order.specs.Newer.{KeepsLevel, Rises, SameRuns, Scaled, old_piece}
@@ -14,15 +16,7 @@ use Rattle.order.specs.Laws.{NewerByScales, NewerTables}
 use Rattle.order.proofs.Names.{levels}
 
 module _ (old : ℕ → Bool) (t u : Rules) where
-  -- an old name has the same pieces under both tables
-  same_pieces : SameRuns old t u → (n : List ℕ) → list_all old n ≡ true → pieces u.joins n ≡ pieces t.joins n
-  unfolding pieces
-  same_pieces s [] o = refl
-  same_pieces s (a ∷ []) o = refl
-  same_pieces s (a ∷ (b ∷ xs)) o =
-      let e = s (a ∷ (b ∷ [])) in let two = same_pieces s xs in let one = same_pieces s (b ∷ xs) in grind arith
-
-  -- and old ones
+  -- old letters have old pieces
   old_pieces : (n : List ℕ) → list_all old n ≡ true → list_all (old_piece old t) (pieces t.joins n) ≡ true
   unfolding pieces
   old_pieces [] o = refl
@@ -44,16 +38,24 @@ module _ (old : ℕ → Bool) (t u : Rules) where
         let both = same_order ps qs in let left = same_order ps (q ∷ qs) in let right = same_order (p ∷ ps) qs in
         grind arith
 
-  rows_keep : SameRuns old t u → (l : Level) → KeepsLevel old t u l → (a b : List ℕ) → list_all old a ≡ true → list_all old b ≡ true → row_order (row l u a) (row l u b) ≡ row_order (row l t a) (row l t b)
+  letters_keep : SameRuns old t u → (l : Level) → KeepsLevel old t u l → (a b : List ℕ) → list_all old a ≡ true → list_all old b ≡ true → row_order (row_of l u a) (row_of l u b) ≡ row_order (row_of l t a) (row_of l t b)
+  unfolding row_of
+  letters_keep s l k a b oa ob =
+      rw (same_pieces old u.joins t.joins s a oa, same_pieces old u.joins t.joins s b ob) (same_order l k (pieces t.joins a) (pieces t.joins b) (old_pieces a oa) (old_pieces b ob))
+
+  -- the letters of a name are the same where both read bytes the same way
+  rows_keep : u.utf8 ≡ t.utf8 → SameRuns old t u → (l : Level) → KeepsLevel old t u l → (a b : List ℕ) → list_all old (letters_in t.utf8 a) ≡ true → list_all old (letters_in t.utf8 b) ≡ true
+      → row_order (row l u a) (row l u b) ≡ row_order (row l t a) (row l t b)
   unfolding row
-  rows_keep s l k a b oa ob =
-      rw (same_pieces s a oa, same_pieces s b ob) (same_order l k (pieces t.joins a) (pieces t.joins b) (old_pieces a oa) (old_pieces b ob))
+  rows_keep e s l k a b oa ob =
+      ap (λ v. row_order (row_of l u (letters_in v a)) (row_of l u (letters_in v b))) e
+      ∙ letters_keep s l k (letters_in t.utf8 a) (letters_in t.utf8 b) oa ob
 
 pub newer_tables : NewerTables
 newer_tables old t u k a b oa ob =
-    let one = rows_keep old t u k.runs Primary (k.levels Primary) a b oa ob in
-    let two = rows_keep old t u k.runs Secondary (k.levels Secondary) a b oa ob in
-    let three = rows_keep old t u k.runs Tertiary (k.levels Tertiary) a b oa ob in
+    let one = rows_keep old t u k.reads k.runs Primary (k.levels Primary) a b oa ob in
+    let two = rows_keep old t u k.reads k.runs Secondary (k.levels Secondary) a b oa ob in
+    let three = rows_keep old t u k.reads k.runs Tertiary (k.levels Tertiary) a b oa ob in
     levels u a b ∙ rw (one, two, three) (sym (levels t a b))
 
 module _ (f : ℕ → ℕ) (r : Rises f) where
@@ -70,4 +72,4 @@ scaled old t u l (f, g, rf, rg, e) = record {
 }
 
 pub newer_by_scales : NewerByScales
-newer_by_scales old t u s k = newer_tables old t u (record { runs = s; levels = λ l. scaled old t u l (k l) })
+newer_by_scales old t u e s k = newer_tables old t u (record { reads = e; runs = s; levels = λ l. scaled old t u l (k l) })

@@ -108,9 +108,10 @@ ReadBack = (t u : Rules) (a b : List ℕ) → key t a ≡ key u b → rows t a �
 abbrev pub NewerTables : Type 0
 NewerTables = (old : ℕ → Bool) (t u : Rules) → Keeps old t u → KeepsNames old t u
 
--- the same where the same runs of old letters are one, and the weights of both tables rise onto a common scale on each level
+-- the same where both read bytes the same way, the same runs of old letters are one, and the weights of both tables rise onto a
+-- common scale on each level
 abbrev pub NewerByScales : Type 0
-NewerByScales = (old : ℕ → Bool) (t u : Rules) → SameRuns old t u → ((l : Level) → Scaled old t u l) → KeepsNames old t u
+NewerByScales = (old : ℕ → Bool) (t u : Rules) → u.utf8 ≡ t.utf8 → SameRuns old t u → ((l : Level) → Scaled old t u l) → KeepsNames old t u
 
 -- all of these
 pub record OrderLaws : Type 0 where

@@ -2,6 +2,7 @@
 use Rattle.std.specs.Prelude.{Bool, List, length, ℕ, true, ◌&&◌, ◌<◌, ◌==◌, ◌||◌, ◌≡◌}
 use Rattle.std.specs.List.{list_all}
 use Rattle.std.specs.Ordering.{nat_cmp}
+use Rattle.keys.specs.Letters.{letters_in}
 use Rattle.keys.specs.Rows.{weight}
 use Rattle.keys.specs.declared.level.Level.{Level}
 use Rattle.order.specs.Names.{name_order}
@@ -24,14 +25,15 @@ pub record KeepsLevel (old : ℕ → Bool) (t u : Rules) (l : Level) : Type 0 wh
 abbrev pub SameRuns : (old : ℕ → Bool) → Rules → Rules → Type 0
 SameRuns old t u = (run : List ℕ) → list_all old run ≡ true → u.joins run ≡ t.joins run
 
--- the tests: the newer table u keeps what the older table t says of old letters
+-- the tests: the newer table u keeps what the older table t says of old letters, and both read bytes the same way
 pub record Keeps (old : ℕ → Bool) (t u : Rules) : Type 0 where
+  pub reads : u.utf8 ≡ t.utf8
   pub runs : SameRuns old t u
   pub levels : (l : Level) → KeepsLevel old t u l
 
 -- any two names in old letters stand to each other as before
 abbrev pub KeepsNames : (old : ℕ → Bool) → Rules → Rules → Type 0
-KeepsNames old t u = (a b : List ℕ) → list_all old a ≡ true → list_all old b ≡ true → name_order u a b ≡ name_order t a b
+KeepsNames old t u = (a b : List ℕ) → list_all old (letters_in t.utf8 a) ≡ true → list_all old (letters_in t.utf8 b) ≡ true → name_order u a b ≡ name_order t a b
 
 -- a map that keeps the order of numbers, and 0
 abbrev pub Rises : (ℕ → ℕ) → Type 0

@@ -6,28 +6,34 @@ use Rattle.order.specs.Newer.{is_piece}
 use Rattle.order.specs.declared.piece.OldPieces.{OldPieces}
 use Rattle.order.specs.declared.piece.Piece.{Piece}
 use Rattle.order.specs.declared.piece.Piece.TheVariants.{Letter, Pair}
+use Rattle.table.specs.declared.piece.Letter as table_letter
 use Rattle.table.specs.declared.piece.Pair as table_pair
 use Rattle.table.specs.declared.piece.Weights.{Weights}
 use Rattle.table.specs.declared.view.Table.{Table}
-use Rattle.table.specs.Meaning.{pairs_of}
+use Rattle.table.specs.Meaning.{letters_of, pairs_of}
 use Rattle.table.specs.Rules.{Rules}
 
--- of the letters 0 to 255 those are old that are marked
+-- the letters are old that are marked; those behind the marks are not
 abbrev pub old_in : List Bool → ℕ → Bool
-old_in marks a = nat_lt a 256 && slice_index_or marks a false
+old_in marks a = nat_lt a (length marks) && slice_index_or marks a false
 
 -- the letters of a piece
-abbrev pub letters_of : Piece → List ℕ
-letters_of (Letter a) = a ∷ []
-letters_of (Pair a b) = a ∷ (b ∷ [])
+abbrev pub run_in : Piece → List ℕ
+run_in (Letter a) = a ∷ []
+run_in (Pair a b) = a ∷ (b ∷ [])
 
 -- what letters weigh, where they are a piece
 abbrev pub piece_weights : Rules → List ℕ → Option Weights
 piece_weights t run = cond (is_piece t run) (Some (t.weighs run)) None
 
--- how many places may hold a piece: one for each letter, and behind them one for each pair
+-- how many places may hold a piece: one for each letter that the table lists, and behind them one for each pair
 abbrev pub places : Table → ℕ
-places t = 256 + length (pairs_of t)
+places t = length (letters_of t) + length (pairs_of t)
+
+-- a letter, if there is one
+abbrev pub letter_run : Option table_letter.Letter → List ℕ
+letter_run None = []
+letter_run (Some e) = e.letter ∷ []
 
 -- the letters of a pair, if there is one
 abbrev pub run_of : Option table_pair.Pair → List ℕ
@@ -36,7 +42,8 @@ run_of (Some p) = p.first ∷ (p.second ∷ [])
 
 -- the letters at a place
 abbrev pub run_at : Table → ℕ → List ℕ
-run_at t k = cond (nat_lt k 256) (k ∷ []) (run_of (slice_get (pairs_of t) (k - 256)))
+run_at t k =
+    cond (nat_lt k (length (letters_of t))) (letter_run (slice_get (letters_of t) k)) (run_of (slice_get (pairs_of t) (k - length (letters_of t))))
 
 -- the same, where all are old
 abbrev pub old_at : OldPieces → ℕ → Option (List ℕ)
@@ -44,7 +51,7 @@ old_at s k = cond (list_all (old_in s.old.now) (run_at s.table.now k)) (Some (ru
 
 -- a place before the end holds this old piece, or none
 abbrev pub PieceAt : OldPieces → ℕ → Option Piece → Type 0
-PieceAt s k r = k < places s.table.now → option_map letters_of r ≡ old_at s k
+PieceAt s k r = k < places s.table.now → option_map run_in r ≡ old_at s k
 
 -- no place from one to another holds an old piece
 abbrev pub NoneBetween : OldPieces → (from to : ℕ) → Type 0
@@ -55,4 +62,4 @@ abbrev pub NextPiece : OldPieces → Option Piece → OldPieces → Type 0
 NextPiece s None t = NoneBetween s s.place (places s.table.now)
 NextPiece s (Some p) t =
     (t.table ≡ s.table) × (t.old ≡ s.old)
-    × ((k : ℕ) × (s.place ≤ k) × (k < places s.table.now) × NoneBetween s s.place k × (old_at s k ≡ Some (letters_of p)) × (t.place ≡ k + 1))
+    × ((k : ℕ) × (s.place ≤ k) × (k < places s.table.now) × NoneBetween s s.place k × (old_at s k ≡ Some (run_in p)) × (t.place ≡ k + 1))

@@ -1,24 +1,25 @@
 // What two names both begin with.
-ghost use Rattle.std.specs.Prelude.{◌≡◌, ◌<◌, ◌≤◌, drop, length, take};
-ghost use Rattle.order.specs.Fronts.{Shared, straddles};
+ghost use Rattle.std.specs.Prelude.{◌≡◌, ◌<◌, ◌≤◌, drop, length, take, true};
+ghost use Rattle.order.specs.Fronts.{EndsWith, MayCut, Shared};
 ghost use Rattle.table.specs.Meaning.{rules_of};
 
+use keys::{first_in, one_byte};
 use table::Table;
 
-// How many letters two names both begin with, such that no two letters that are one together are cut in two there. These
-// letters have the same rows in both, so that what is behind them decides.
+// How many bytes two names both begin with, such that no letter is cut in two there, and no two letters that are one together.
+// These bytes have the same rows in both, so that what is behind them decides.
 pub(crate) fn shared(table: &Table, a: &[u8], b: &[u8]) -> usize
-    ensures { Shared (rules_of table.now).joins a.now b.now result }
+    ensures { Shared (rules_of table.now) a.now b.now result }
 {
-    let mut n = same_letters(a, b);
-    while n > 0 && (straddles(table, a, n) || straddles(table, b, n)) {
+    let mut n = same_bytes(a, b);
+    while n > 0 && !(may_cut(table, a, n) && may_cut(table, b, n)) {
         n -= 1;
     }
     n
 }
 
-// How many letters are the same.
-fn same_letters(a: &[u8], b: &[u8]) -> usize
+// How many bytes are the same.
+fn same_bytes(a: &[u8], b: &[u8]) -> usize
     ensures within { (result ≤ length a.now) × (result ≤ length b.now) }
     ensures same { take result a.now ≡ take result b.now }
 {
@@ -29,10 +30,50 @@ fn same_letters(a: &[u8], b: &[u8]) -> usize
     n
 }
 
-// Whether two letters that are one together stand on both sides of a place.
-fn straddles(table: &Table, name: &[u8], place: usize) -> bool
-    requires { 0 < place }
-    ensures { result ≡ straddles (rules_of table.now).joins (take place name.now) (drop place name.now) }
+// Whether a name can be cut at a place. Most letters are one byte.
+fn may_cut(table: &Table, name: &[u8], place: usize) -> bool
+    requires { (0 < place) × (place ≤ length name.now) }
+    ensures { result ≡ true → MayCut (rules_of table.now) name.now place }
 {
-    place < name.len() && table.pair(name[place - 1], name[place]).is_some()
+    if place == name.len() {
+        return true;
+    }
+    let last = name[place - 1];
+    let next = name[place];
+    if one_byte(table.utf8(), last) && one_byte(table.utf8(), next) {
+        return table.pair(last as u32, next as u32).is_none();
+    }
+    may_cut_letters(table, name, place)
+}
+
+// The same where a letter may be several bytes. Where no letter can be read on one side of the place, the answer is no.
+#[inline(never)]
+fn may_cut_letters(table: &Table, name: &[u8], place: usize) -> bool
+    requires { place ≤ length name.now }
+    ensures { result ≡ true → MayCut (rules_of table.now) name.now place }
+{
+    let utf8 = table.utf8();
+    match (
+        last_in(utf8, &name[..place]),
+        first_in(utf8, &name[place..]),
+    ) {
+        (Some(last), Some((next, _))) => next < 65536 && table.pair(last, next).is_none(),
+        _ => false,
+    }
+}
+
+// The last letter of bytes; nothing where the last bytes are none.
+fn last_in(utf8: bool, front: &[u8]) -> Option<u32>
+    ensures { EndsWith utf8 front.now result }
+{
+    for length in 1..4 {
+        if length > front.len() {
+            return None;
+        }
+        let (letter, taken) = first_in(utf8, &front[front.len() - length..])?;
+        if taken == length && letter < 65536 {
+            return Some(letter);
+        }
+    }
+    None
 }

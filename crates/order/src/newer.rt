@@ -11,6 +11,8 @@ use table::{Table, Weights};
 // What a newer table says of old letters otherwise than the older one.
 #[derive(Clone, Copy, PartialEq, Eq, Debug)]
 pub enum Change {
+    // Names are in UTF-8 under only one of the tables.
+    Utf8,
     // These letters, a pair, are one together in only one of the tables.
     Joins(Piece),
     // This piece weighs 0 on the level in only one of the tables.
@@ -20,14 +22,21 @@ pub enum Change {
 }
 
 // Whether the newer table keeps what the older one says of old letters; else what has changed. Where it keeps, all names in
-// old letters stand to each other as before. Old are the letters that are marked.
-pub fn keeps_order(older: &Table, newer: &Table, old: &[bool; 256]) -> Result<(), Change>
+// old letters stand to each other as before. Old are the letters that are marked, by their numbers.
+pub fn keeps_order(older: &Table, newer: &Table, old: &[bool]) -> Result<(), Change>
     ensures { Decided (old_in old.now) (rules_of older.now) (rules_of newer.now) result }
 {
+    if older.utf8() != newer.utf8() {
+        return Err(Change::Utf8);
+    }
     for piece in OldPieces::new(newer, old) {
         Weighed::new(piece, older, newer)?;
     }
     for piece in OldPieces::new(older, old) {
+        Weighed::new(piece, older, newer)?.same_zeros()?;
+    }
+    // A letter that only the newer table lists weighs nothing under the older.
+    for piece in OldPieces::new(newer, old) {
         Weighed::new(piece, older, newer)?.same_zeros()?;
     }
     for piece in OldPieces::new(older, old) {

@@ -5,10 +5,15 @@ use std::alloc::Global;
 use std::cmp::Ordering;
 use std::process::Abort;
 use std::test::Fail;
-use table::{Table, TableBuf, Weights};
+use table::{Letter, Table, TableBuf, Weights};
 
 // Of these names each is before all those behind it, and their keys say so too.
-fn in_order(rt: &impl Abort, heap: Global, table: &Table, names: &[&[u8]]) -> Result<(), Fail> {
+pub(crate) fn in_order(
+    rt: &impl Abort,
+    heap: Global,
+    table: &Table,
+    names: &[&[u8]],
+) -> Result<(), Fail> {
     for (i, one) in names.iter().enumerate() {
         for (j, other) in names.iter().enumerate() {
             assert_eq!(rt; table.compare(one, other), i.cmp(&j));
@@ -51,8 +56,12 @@ fn same_keys(rt: HostRuntime) {
 #[test]
 fn ignored_letters(rt: HostRuntime) -> Result<(), Fail> {
     let mut own = TableBuf::new(rt.alloc())?;
-    own.set_letter(b'a', Weights::from([1, 1, 1]));
-    own.set_letter(b'b', Weights::from([2, 0, 0]));
+    for (letter, weights) in [(97, [1, 1, 1]), (98, [2, 0, 0])] {
+        own.add_letter(Letter {
+            letter,
+            weights: Weights::from(weights),
+        })?;
+    }
     let table = own.table();
     assert_eq!(rt; table.compare(b"xa", b"a"), Ordering::Equal);
     assert_eq!(rt; table.compare(b"ax", b"a"), Ordering::Equal);

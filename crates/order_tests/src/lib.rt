@@ -1,4 +1,4 @@
-// Names compared on examples, where rows stand to what is asked, and what a newer table keeps.
+// Names compared on examples, where rows stand to what is asked, what a newer table keeps, and names in UTF-8.
 #![tactic(auto)]
 
 #[cfg(test)]
@@ -7,3 +7,5 @@ mod compare;
 mod newer;
 #[cfg(test)]
 mod standing;
+#[cfg(test)]
+mod wide;

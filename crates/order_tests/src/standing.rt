@@ -1,7 +1,7 @@
 // Where names stand to what is asked.
 use order::{Collate, Standing};
 use std::test::Fail;
-use table::{Pair, Table, TableBuf, Weights};
+use table::{Letter, Pair, Table, TableBuf, Weights};
 
 // What is asked, and how many names are before it and how many begin with it.
 #[derive(Clone, Copy)]
@@ -50,8 +50,12 @@ fn valley(rt: HostRuntime) {
 #[test]
 fn own_table(rt: HostRuntime) -> Result<(), Fail> {
     let mut own = TableBuf::new(rt.alloc())?;
-    own.set_letter(b'a', Weights::from([2, 0, 0]));
-    own.set_letter(b'b', Weights::from([0, 1, 1]));
+    for (letter, weights) in [(97, [2, 0, 0]), (98, [0, 1, 1])] {
+        own.add_letter(Letter {
+            letter,
+            weights: Weights::from(weights),
+        })?;
+    }
     own.add_pair(Pair {
         first: 98,
         second: 98,

@@ -1,5 +1,5 @@
 -- Following the chain of a bucket meets the pair that looking at every place would.
-use Rattle.std.proofs.Common.{◌||◌, ◌≡◌, ℕ, zero, suc, ◌+◌, ◌<◌, ◌≤◌, cond, eqb, List, length, get_or, set, replicate, Some, None, Option, sym, refl, ap, ◌∙◌, ⊎_elim, add-one, arith, IfSome, true, false}
+use Rattle.std.proofs.Common.{◌||◌, ◌≡◌, ℕ, zero, suc, ◌+◌, ◌%◌, ◌<◌, ◌≤◌, cond, eqb, List, length, get_or, set, replicate, Some, None, Option, sym, refl, ap, ◌∙◌, ⊎_elim, add-one, arith, IfSome, true, false}
 use Rattle.std.proofs.lemmas.List.FromFn.{length-map-range_with_len, get_or-map-range_with_len}
 use Rattle.std.proofs.lemmas.List.{ext_get_or, length-set, get_or-set_same, get_or-set_other}
 use Rattle.std.proofs.lemmas.Bool.{cond-false, cond-true, eq-eqb, ne_eqb, cases_eq}
@@ -150,10 +150,10 @@ linked_more ps n heads links l h =
     }
 
 -- a letter that begins no pair
-pub none_begun : (ps : List ℕ) (n a b : ℕ) → begun ps n a ≡ false → None ≡ place_in ps n a b
+pub none_begun : (ps : List ℕ) (n a b : ℕ) → begun ps n (a % 256) ≡ false → None ≡ place_in ps n a b
 unfolding begun place_in
 none_begun ps zero a b e = refl
-none_begun ps (suc k) a b e = let ih = none_begun ps k a b in grind (arith, nat_tests)
+none_begun ps (suc k) a b e = let ih = none_begun ps k a b in let h = ap (λ x. x % 256) {x = first_at ps k} {y = a} in grind (arith, nat_tests)
 
 pub no_marks : (ps : List ℕ) → marks_of ps 0 ≡ replicate 256 false
 unfolding begun
@@ -162,26 +162,27 @@ no_marks ps = refl
 pub mark_at : (ps : List ℕ) (n a : ℕ) → a < 256 → get_or (marks_of ps n) a false ≡ begun ps n a
 mark_at ps n a h = get_or-map-range_with_len (begun ps n) 0 256 a a false h (omega arith)
 
-begun_more : (ps : List ℕ) (n a : ℕ) → begun ps (n + 1) a ≡ (eqb (first_at ps n) a || begun ps n a)
+begun_more : (ps : List ℕ) (n a : ℕ) → begun ps (n + 1) a ≡ (eqb (first_at ps n % 256) a || begun ps n a)
 unfolding begun
 begun_more ps n a = rw (add-one n)
 
-mark_more : (ps : List ℕ) (n : ℕ) → first_at ps n < 256 → (a : ℕ) → a < 256 → get_or (set (marks_of ps n) (first_at ps n) true) a false ≡ get_or (marks_of ps (n + 1)) a false
-mark_more ps n h a l =
+mark_more : (ps : List ℕ) (n : ℕ) → (a : ℕ) → a < 256 → get_or (set (marks_of ps n) (first_at ps n % 256) true) a false ≡ get_or (marks_of ps (n + 1)) a false
+mark_more ps n a l =
     let m = begun_more ps n a in
     let x = mark_at ps n a l in
     let y = mark_at ps (n + 1) a l in
     let k = length-map-range_with_len (begun ps n) 0 256 in
-    let same = get_or-set_same (marks_of ps n) (first_at ps n) true false (under _ (first_at ps n) _ (sym k) h) in
-    let other = get_or-set_other (marks_of ps n) (first_at ps n) a true false in
+    let h : first_at ps n % 256 < 256 = omega arith in
+    let same = get_or-set_same (marks_of ps n) (first_at ps n % 256) true false (under _ (first_at ps n % 256) _ (sym k) h) in
+    let other = get_or-set_other (marks_of ps n) (first_at ps n % 256) a true false in
     ⊎_elim
-    (λ e. let t = eq-eqb (first_at ps n) a (sym e) in rw e (grind (arith, nat_tests)))
-    (λ e. let o = other e in let t = ne_eqb (first_at ps n) a (λ q. e (sym q)) in grind (arith, nat_tests))
-    (cases_eq a (first_at ps n))
+    (λ e. let t = eq-eqb (first_at ps n % 256) a (sym e) in rw e (grind (arith, nat_tests)))
+    (λ e. let o = other e in let t = ne_eqb (first_at ps n % 256) a (λ q. e (sym q)) in grind (arith, nat_tests))
+    (cases_eq a (first_at ps n % 256))
 
-pub marks_more : (ps : List ℕ) (n : ℕ) → first_at ps n < 256 → set (marks_of ps n) (first_at ps n) true ≡ marks_of ps (n + 1)
-marks_more ps n h =
-    let j = length-set (marks_of ps n) (first_at ps n) true in
+pub marks_more : (ps : List ℕ) (n : ℕ) → set (marks_of ps n) (first_at ps n % 256) true ≡ marks_of ps (n + 1)
+marks_more ps n =
+    let j = length-set (marks_of ps n) (first_at ps n % 256) true in
     let k = length-map-range_with_len (begun ps n) 0 256 in
     let m = length-map-range_with_len (begun ps (n + 1)) 0 256 in
-    ext_get_or false _ _ (j ∙ k ∙ sym m) (λ a l. mark_more ps n h a (under _ a 256 (j ∙ k) l))
+    ext_get_or false _ _ (j ∙ k ∙ sym m) (λ a l. mark_more ps n a (under _ a 256 (j ∙ k) l))

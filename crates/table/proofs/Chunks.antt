@@ -10,8 +10,7 @@ use Rattle.std.proofs.lemmas.Iterator.{YieldsList}
 use Rattle.std.proofs.lemmas.Iterator.Splits.{YieldsList-from_shown_while}
 use Rattle.table.specs.Numbers.{first_at, second_at}
 use Rattle.table.specs.Refusals.{first_place, foreign, unknown}
-use Rattle.table.proofs.Firsts.{looked_through, none_at}
-use Rattle.table.proofs.Places.{first_known, second_known}
+use Rattle.table.proofs.Firsts.{looked_through}
 
 module _ (ps : List ℕ) (k : ℕ) (xs rest : List ℕ) (e : drop (5 * k) ps ≡ xs ++ rest) (l : length xs ≡ 5) where
   in_chunk : (i j : ℕ) → i ≡ 5 * k + j → j < 5 → get_or xs j 0 ≡ get_or ps i 0
@@ -32,17 +31,6 @@ module _ (ps : List ℕ) (k : ℕ) (xs rest : List ℕ) (e : drop (5 * k) ps ≡
   pub chunk_there : k < length ps / 5
   chunk_there = let d = length-drop (5 * k) ps in let a = ap length e in let b = length-append xs rest in omega arith
 
-  -- the pair's letters, where those of all pairs are known
-  module _ (f : first_place (foreign ps) (length ps / 5) ≡ None) where
-    pub not_foreign : foreign ps k ≡ false
-    not_foreign = none_at (foreign ps) _ f k chunk_there
-
-    pub first_fits : get_or xs 0 0 < 256
-    first_fits = let a = first_in in let b = first_known ps k not_foreign in omega arith
-
-    pub second_fits : get_or xs 1 0 < 256
-    second_fits = let a = second_in in let b = second_known ps k not_foreign in omega arith
-
 -- the numbers of all pairs, each with its five
 pub fives : List ℕ → List (List ℕ)
 fives [] = []
@@ -62,7 +50,7 @@ many_fives (a ∷ (b ∷ (c ∷ (d ∷ [])))) = omega arith
 many_fives (a ∷ (b ∷ (c ∷ (d ∷ (e ∷ ps))))) = let ih = many_fives ps in omega arith
 
 -- the letters of the five at a place
-five_at : (ps : List ℕ) (k : ℕ) (d : List ℕ) → k < length (fives ps) → unknown (get_or (get_or (fives ps) k d) 0 0) (get_or (get_or (fives ps) k d) 1 0) ≡ foreign ps k
+five_at : (ps : List ℕ) (k : ℕ) (d : List ℕ) → k < length (fives ps) → unknown false (get_or (get_or (fives ps) k d) 0 0) (get_or (get_or (fives ps) k d) 1 0) ≡ foreign false ps k
 unfolding fives
 five_at [] k z l = absurd (omega arith)
 five_at (a ∷ []) k z l = absurd (omega arith)
@@ -74,7 +62,7 @@ five_at (a ∷ (b ∷ (c ∷ (d ∷ (e ∷ ps))))) (suc k) z l =
     let ih = five_at ps k z (omega arith) in
     let m : 5 * suc k ≡ suc (suc (suc (suc (suc (5 * k))))) = omega arith in
     let n : 5 * suc k + 1 ≡ suc (suc (suc (suc (suc (5 * k + 1))))) = omega arith in
-    ih ∙ ap₂ (λ i j. unknown (get_or (a ∷ (b ∷ (c ∷ (d ∷ (e ∷ ps))))) i 0) (get_or (a ∷ (b ∷ (c ∷ (d ∷ (e ∷ ps))))) j 0)) (sym m) (sym n)
+    ih ∙ ap₂ (λ i j. unknown false (get_or (a ∷ (b ∷ (c ∷ (d ∷ (e ∷ ps))))) i 0) (get_or (a ∷ (b ∷ (c ∷ (d ∷ (e ∷ ps))))) j 0)) (sym m) (sym n)
 
 front_five : (xs ps : List ℕ) → length xs ≡ 5 → fives (xs ++ ps) ≡ xs ∷ fives ps
 unfolding fives
@@ -88,18 +76,18 @@ front_five (a ∷ (b ∷ (c ∷ (d ∷ (e ∷ (f ∷ xs)))))) ps l = absurd (ome
 
 -- whether the letters of a five are known
 abbrev pub Tests : Bool → List ℕ → Type 0
-Tests b xs = unknown (get_or xs 0 0) (get_or xs 1 0) ≡ b
+Tests b xs = unknown false (get_or xs 0 0) (get_or xs 1 0) ≡ b
 
 -- the first five that has a letter above 255
 pub first_of_fives : (ps : List ℕ) (r : Option ℕ) →
     MatchOption r (AllWithin (Tests false) (fives ps) 0 (length (fives ps))) (λ i. (i < length (fives ps)) × HoldsAt (Tests true) (fives ps) i × AllWithin (Tests false) (fives ps) 0 i) →
-    first_place (foreign ps) (length ps / 5) ≡ r
+    first_place (foreign false ps) (length ps / 5) ≡ r
 first_of_fives ps None h =
     let n = many_fives ps in
-    looked_through (foreign ps) (length ps / 5) None (λ k g l. sym (five_at ps k [] (omega arith)) ∙ h k [] g (omega arith))
+    looked_through (foreign false ps) (length ps / 5) None (λ k g l. sym (five_at ps k [] (omega arith)) ∙ h k [] g (omega arith))
 first_of_fives ps (Some i) h =
     let n = many_fives ps in
-    looked_through (foreign ps) (length ps / 5) (Some i)
+    looked_through (foreign false ps) (length ps / 5) (Some i)
     (omega arith, omega arith, sym (five_at ps i [] h.0) ∙ h.1 [], λ k g l. (let m = h.0 in sym (five_at ps k [] (omega arith)) ∙ h.2 k [] g l))
 
 -- what `chunks_exact(5)` gives

@@ -3,16 +3,16 @@ use Rattle.std.proofs.Common.{◌≡◌, ℕ, zero, suc, ◌+◌, ◌-◌, ◌*�
 use Rattle.std.specs.Option.{option_or}
 use Rattle.std.proofs.lemmas.List.FromFn.{length-map-range_with_len, get_or-map-range_with_len, map-range_with_len_more}
 use Rattle.std.proofs.lemmas.List.{ext_get_or, length-append, get_or_append_left, get_or-append_right}
-use Rattle.std.proofs.lemmas.Bool.{eq-eqb}
+use Rattle.std.proofs.lemmas.Bool.{eq-eqb, ltb-false, or_parts}
 use Rattle.std.proofs.lemmas.Bool.Decides.{nat_tests}
+use Rattle.table.specs.declared.piece.Letter.{Letter}
 use Rattle.table.specs.declared.piece.Pair.{Pair}
 use Rattle.table.specs.declared.fault.Refusal.TheVariants.{TooMany, Foreign, Twice}
 use Rattle.table.specs.Buffer.{pair_refusal}
 use Rattle.table.specs.Numbers.{weights_at, first_at, second_at, pair_at, pairs_in, numbers_of, place_in}
-use Rattle.table.specs.Refusals.{first_place, foreign, repeated, refusal_of, at_place}
-use Rattle.table.specs.Rules.{same_run, joins_in, weighs_in, rules_in, with_pair, weights_of}
+use Rattle.table.specs.Refusals.{first_place, foreign, repeated, refusal_of, at_place, unknown, last_letter}
+use Rattle.table.specs.Rules.{same_run, joins_in, weighs_in, rules_by, rules_in, with_pair, weights_of}
 use Rattle.table.proofs.Places.{place_below}
-use Rattle.table.proofs.Refusing.{sound}
 use Rattle.table.proofs.Saying.{same_rules, same_weights}
 
 first_alike : (f g : ℕ → Bool) (n : ℕ) → ((k : ℕ) → k < n → f k ≡ g k) → first_place f n ≡ first_place g n
@@ -27,7 +27,7 @@ first_more f g n h e = let a = first_alike f g n h ∙ e in rw (add-one, a)
 many : (n : ℕ) → ltb 200 (n + 1) ≡ leb 200 n
 many n = grind (arith, nat_tests)
 
-module _ (ps : List ℕ) (n : ℕ) (p : Pair) (fives : length ps ≡ 5 * n) where
+module _ (u : Bool) (ps : List ℕ) (n : ℕ) (p : Pair) (fives : length ps ≡ 5 * n) where
   old_number : (i : ℕ) → i < 5 * n → get_or (ps ++ numbers_of p) i 0 ≡ get_or ps i 0
   old_number i l = get_or_append_left ps (numbers_of p) 0 i (omega arith)
 
@@ -67,11 +67,11 @@ module _ (ps : List ℕ) (n : ℕ) (p : Pair) (fives : length ps ≡ 5 * n) wher
       let e = ap (λ q. eqb q.first a && eqb q.second b) new_pair in
       rw (add-one, o, e)
 
-  foreign_old : (k : ℕ) → k < n → foreign (ps ++ numbers_of p) k ≡ foreign ps k
-  foreign_old k l = ap (λ q. ltb 255 q.first || ltb 255 q.second) (old_pair k l)
+  foreign_old : (k : ℕ) → k < n → foreign u (ps ++ numbers_of p) k ≡ foreign u ps k
+  foreign_old k l = ap (λ q. unknown u q.first q.second) (old_pair k l)
 
-  foreign_new : foreign (ps ++ numbers_of p) n ≡ (ltb 255 p.first || ltb 255 p.second)
-  foreign_new = ap (λ q. ltb 255 q.first || ltb 255 q.second) new_pair
+  foreign_new : foreign u (ps ++ numbers_of p) n ≡ unknown u p.first p.second
+  foreign_new = ap (λ q. unknown u q.first q.second) new_pair
 
   repeated_old : (k : ℕ) → k < n → repeated (ps ++ numbers_of p) k ≡ repeated ps k
   repeated_old k l =
@@ -113,7 +113,7 @@ module _ (ps : List ℕ) (n : ℕ) (p : Pair) (fives : length ps ≡ 5 * n) wher
       go false true w k = k
       go false false w k = k
 
-  module _ (ls : List ℕ) where
+  module _ (ls : List ℕ) (os : List Letter) where
     joins_more : (run : List ℕ) → joins_in (ps ++ numbers_of p) (n + 1) run ≡ (same_run (p.first ∷ (p.second ∷ [])) run || joins_in ps n run)
     unfolding joins_in
     joins_more [] = refl
@@ -121,56 +121,88 @@ module _ (ps : List ℕ) (n : ℕ) (p : Pair) (fives : length ps ≡ 5 * n) wher
     joins_more (a ∷ (b ∷ [])) = let e = new_place a b in rw e (grind (arith, nat_tests))
     joins_more (a ∷ (b ∷ (c ∷ run))) = grind (arith, nat_tests)
 
-    weighs_more : (run : List ℕ) → weighs_in ls (ps ++ numbers_of p) (n + 1) run ≡ cond (same_run (p.first ∷ (p.second ∷ [])) run) p.weights (weighs_in ls ps n run)
+    weighs_more : (run : List ℕ) → weighs_in ls os (ps ++ numbers_of p) (n + 1) run ≡ cond (same_run (p.first ∷ (p.second ∷ [])) run) p.weights (weighs_in ls os ps n run)
     unfolding weighs_in
     weighs_more [] = refl
     weighs_more (a ∷ []) = grind (arith, nat_tests)
     weighs_more (a ∷ (b ∷ [])) = pair_weighs a b
     weighs_more (a ∷ (b ∷ (c ∷ run))) = grind (arith, nat_tests)
 
-    pub rules_more : rules_in ls (ps ++ numbers_of p) (n + 1) ≡ with_pair (rules_in ls ps n) p
-    rules_more = same_rules (rules_in ls (ps ++ numbers_of p) (n + 1)) (with_pair (rules_in ls ps n) p) joins_more weighs_more
+    pub rules_more : rules_by u ls os (ps ++ numbers_of p) (n + 1) ≡ with_pair (rules_by u ls os ps n) p
+    rules_more = same_rules (rules_by u ls os (ps ++ numbers_of p) (n + 1)) (with_pair (rules_by u ls os ps n) p) joins_more weighs_more refl
 
-    -- the numbers with the pair behind are turned away just as the pair is
-    pub refusal_more : length ls ≡ 768 → first_place (foreign ps) n ≡ None → first_place (repeated ps) n ≡ None →
-        refusal_of ls (ps ++ numbers_of p) (n + 1) ≡ pair_refusal (rules_in ls ps n) n p
-    unfolding refusal_of joins_in
-    refusal_more whole known apart =
-        let l = length-append ps (numbers_of p) in
-        let f = first_more (foreign (ps ++ numbers_of p)) (foreign ps) n foreign_old known ∙ ap (λ t. cond t (Some n) None) foreign_new in
-        let r = first_more (repeated (ps ++ numbers_of p)) (repeated ps) n repeated_old apart ∙ ap (λ t. cond t (Some n) None) repeated_new in
-        let i = eq-eqb (length ls) 768 whole in
-        let j = eq-eqb (length (ps ++ numbers_of p)) (5 * (n + 1)) (omega arith) in
-        rw (i, j, f, r) (go (ltb 255 p.first || ltb 255 p.second) (is_some (place_in ps n p.first p.second)) (many n))
-      where
-        at : (m x y : Bool) →
-            option_or (cond m (Some TooMany) None) (at_place Foreign (cond x (Some n) None) (at_place Twice (cond y (Some n) None) None))
-            ≡ cond m (Some TooMany) (cond x (Some (Foreign n)) (cond y (Some (Twice n)) None))
-        at true x y = refl
-        at false true y = refl
-        at false false true = refl
-        at false false false = refl
+-- the numbers of a table of bytes with the pair behind are turned away just as the pair is
+module _ (ls ps : List ℕ) (n : ℕ) (p : Pair) (fives : length ps ≡ 5 * n) where
+  pub refusal_more : length ls ≡ 768 → first_place (foreign false ps) n ≡ None → first_place (repeated ps) n ≡ None →
+      refusal_of ls (ps ++ numbers_of p) (n + 1) ≡ pair_refusal (rules_in ls ps n) n p
+  unfolding refusal_of joins_in
+  refusal_more whole known apart =
+      let l = length-append ps (numbers_of p) in
+      let f = first_more (foreign false (ps ++ numbers_of p)) (foreign false ps) n (foreign_old false ps n p fives) known ∙ ap (λ t. cond t (Some n) None) (foreign_new false ps n p fives) in
+      let r = first_more (repeated (ps ++ numbers_of p)) (repeated ps) n (repeated_old false ps n p fives) apart ∙ ap (λ t. cond t (Some n) None) (repeated_new false ps n p fives) in
+      let i = eq-eqb (length ls) 768 whole in
+      let j = eq-eqb (length (ps ++ numbers_of p)) (5 * (n + 1)) (omega arith) in
+      rw (i, j, f, r) (go (unknown false p.first p.second) (is_some (place_in ps n p.first p.second)) (many n))
+    where
+      at : (m x y : Bool) →
+          option_or (cond m (Some TooMany) None) (at_place Foreign (cond x (Some n) None) (at_place Twice (cond y (Some n) None) None))
+          ≡ cond m (Some TooMany) (cond x (Some (Foreign n)) (cond y (Some (Twice n)) None))
+      at true x y = refl
+      at false true y = refl
+      at false false true = refl
+      at false false false = refl
 
-        go : (x y : Bool) → ltb 200 (n + 1) ≡ leb 200 n →
-            option_or (cond (ltb 200 (n + 1)) (Some TooMany) None) (at_place Foreign (cond x (Some n) None) (at_place Twice (cond y (Some n) None) None))
-            ≡ cond (leb 200 n) (Some TooMany) (cond x (Some (Foreign n)) (cond y (Some (Twice n)) None))
-        go x y e = rw e (at (leb 200 n) x y)
+      go : (x y : Bool) → ltb 200 (n + 1) ≡ leb 200 n →
+          option_or (cond (ltb 200 (n + 1)) (Some TooMany) None) (at_place Foreign (cond x (Some n) None) (at_place Twice (cond y (Some n) None) None))
+          ≡ cond (leb 200 n) (Some TooMany) (cond x (Some (Foreign n)) (cond y (Some (Twice n)) None))
+      go x y e = rw e (at (leb 200 n) x y)
 
--- the same of numbers that are a table, of which each five is a pair
-module _ (ls ps : List ℕ) (p : Pair) (kept : refusal_of ls ps (length ps / 5) ≡ None) where
+-- what the numbers of pairs of a table that owns them are
+pub record KeptPairs (u : Bool) (ps : List ℕ) : Type 0 where
+  pub fives : length ps ≡ 5 * (length ps / 5)
+  pub few : length ps / 5 ≤ 200
+  pub known : first_place (foreign u ps) (length ps / 5) ≡ None
+  pub apart : first_place (repeated ps) (length ps / 5) ≡ None
+
+module _ (u : Bool) (ls : List ℕ) (os : List Letter) (ps : List ℕ) (p : Pair) (kept : KeptPairs u ps) where
   fifth_more : length (ps ++ numbers_of p) / 5 ≡ length ps / 5 + 1
   fifth_more = let l = length-append ps (numbers_of p) in omega arith
 
-  pub rules_added : rules_in ls (ps ++ numbers_of p) (length (ps ++ numbers_of p) / 5) ≡ with_pair (rules_in ls ps (length ps / 5)) p
-  rules_added = let s = sound ls ps _ kept in let e = fifth_more in rw e (rules_more ps _ p s.fives ls)
+  pub rules_added : rules_by u ls os (ps ++ numbers_of p) (length (ps ++ numbers_of p) / 5) ≡ with_pair (rules_by u ls os ps (length ps / 5)) p
+  rules_added = let e = fifth_more in rw e (rules_more u ps _ p kept.fives ls os)
 
   pub pairs_added : pairs_in (ps ++ numbers_of p) (length (ps ++ numbers_of p) / 5) ≡ pairs_in ps (length ps / 5) ++ p ∷ []
-  pairs_added = let s = sound ls ps _ kept in let e = fifth_more in rw e (pairs_more ps _ p s.fives)
+  pairs_added = let e = fifth_more in rw e (pairs_more u ps _ p kept.fives)
+
+  -- what a pair that is taken is
+  abbrev Free : Type 0
+  Free = (length ps / 5 < 200) × (unknown u p.first p.second ≡ false) × (is_some (place_in ps (length ps / 5) p.first p.second) ≡ false)
+
+  free : pair_refusal (rules_by u ls os ps (length ps / 5)) (length ps / 5) p ≡ None → Free
+  unfolding joins_in
+  free e = (grind (arith, nat_tests), grind (arith, nat_tests), grind (arith, nat_tests))
+
+  pub pair_below : pair_refusal (rules_by u ls os ps (length ps / 5)) (length ps / 5) p ≡ None → (p.first ≤ last_letter u) × (p.second ≤ last_letter u)
+  pair_below e =
+      let f = or_parts _ _ (free e).1 in
+      (ltb-false (last_letter u) p.first f.0, ltb-false (last_letter u) p.second f.1)
+
+  pub kept_added : pair_refusal (rules_by u ls os ps (length ps / 5)) (length ps / 5) p ≡ None → KeptPairs u (ps ++ numbers_of p)
+  kept_added e =
+      let f = free e in
+      let n = length ps / 5 in
+      let l = length-append ps (numbers_of p) in
+      let k = first_more (foreign u (ps ++ numbers_of p)) (foreign u ps) n (foreign_old u ps n p kept.fives) kept.known in
+      let r = first_more (repeated (ps ++ numbers_of p)) (repeated ps) n (repeated_old u ps n p kept.fives) kept.apart in
+      let m = fifth_more in
+      record {
+        fives = (let d = kept.fives in omega arith);
+        few = (let d = f.0 in omega arith);
+        known = rw m (k ∙ rw (foreign_new u ps n p kept.fives, f.1) refl);
+        apart = rw m (r ∙ rw (repeated_new u ps n p kept.fives, f.2) refl);
+      }
 
   -- whether it was added or not
-  pub kept_after : (qs : List ℕ) (done : Bool) → qs ≡ cond done (ps ++ numbers_of p) ps → pair_refusal (rules_in ls ps (length ps / 5)) (length ps / 5) p ≡ None → refusal_of ls qs (length qs / 5) ≡ None
-  kept_after qs true q e =
-      let s = sound ls ps _ kept in
-      let m = fifth_more in
-      rw (q, m) (refusal_more ps _ p s.fives ls s.whole s.known s.apart ∙ e)
+  pub kept_after : (qs : List ℕ) (done : Bool) → qs ≡ cond done (ps ++ numbers_of p) ps → pair_refusal (rules_by u ls os ps (length ps / 5)) (length ps / 5) p ≡ None → KeptPairs u qs
+  kept_after qs true q e = rw q (kept_added e)
   kept_after qs false q e = rw q kept

@@ -1,10 +1,12 @@
 pub mod Chaining
 pub mod Chunks
 pub mod Firsts
+pub mod Entries
 pub mod Places
 pub mod Refusing
 pub mod Saying
 pub mod Valleys
 pub mod Setting
+pub mod Told
 pub mod Growing
 pub mod Lawful

@@ -1,5 +1,5 @@
 -- Which refusal it is, one test after the other.
-use Rattle.std.proofs.Common.{◌≡◌, ℕ, ◌*◌, ◌<◌, ◌≤◌, ◌/◌, ◌⊎◌, List, length, Some, None, Ok, Err, Option, Result, IsErrAnd, is_some, sym, ap, ◌∙◌, refl, inl, inr, ⊎_elim, arith}
+use Rattle.std.proofs.Common.{◌≡◌, ℕ, ◌*◌, ◌<◌, ◌≤◌, ◌/◌, ◌⊎◌, List, [], ◌∷◌, length, Some, None, true, false, Ok, Err, Option, Result, IsErrAnd, is_some, sym, ap, ◌∙◌, refl, inl, inr, ⊎_elim, arith}
 use mathlib.Core.Path.{subst⁻¹}
 use Rattle.std.proofs.lemmas.Bool.{eq-eqb, ne_eqb, lt-ltb, le-ltb, cases_eq, cases_lt, true≢false}
 use Rattle.std.proofs.lemmas.Bool.Decides.{nat_tests}
@@ -7,7 +7,13 @@ use Rattle.table.specs.declared.fault.Refusal.{Refusal}
 use Rattle.table.specs.declared.fault.Refusal.TheVariants.{Letters, Shape, TooMany, Foreign, Twice}
 use Rattle.table.specs.Refusals.{at_place, first_place, foreign, repeated, refusal_of, shape_refusal, verdict}
 use Rattle.table.specs.declared.view.Table.{Table}
+use Rattle.table.specs.Buffer.{LetterAdded, buffer_letters, buffer_rules, is_letter_of, letter_refusal}
 use Rattle.table.specs.Meaning.{Checked}
+use Rattle.table.specs.Rules.{Rules, counts}
+use Rattle.table.specs.declared.buffer.TableBuf.{TableBuf}
+use Rattle.table.specs.declared.fault.Failure.{Failure}
+use Rattle.table.specs.declared.fault.Failure.TheVariants.{Refused}
+use Rattle.table.specs.declared.piece.Letter.{Letter}
 
 module _ (ls ps : List ℕ) (n : ℕ) where
   pub wrong_letters : (length ls ≡ 768 → ⊥) → refusal_of ls ps n ≡ Some Letters
@@ -25,11 +31,11 @@ module _ (ls ps : List ℕ) (n : ℕ) where
       too_many h = rw (eq-eqb (length ls) 768 l, eq-eqb (length ps) (5 * n) s, lt-ltb 200 n h)
 
       module _ (m : n ≤ 200) where
-        pub has_foreign : (k : ℕ) → first_place (foreign ps) n ≡ Some k → refusal_of ls ps n ≡ Some (Foreign k)
+        pub has_foreign : (k : ℕ) → first_place (foreign false ps) n ≡ Some k → refusal_of ls ps n ≡ Some (Foreign k)
         unfolding refusal_of
         has_foreign k e = rw (eq-eqb (length ls) 768 l, eq-eqb (length ps) (5 * n) s, le-ltb 200 n m, e)
 
-        module _ (f : first_place (foreign ps) n ≡ None) where
+        module _ (f : first_place (foreign false ps) n ≡ None) where
           pub has_twice : (k : ℕ) → first_place (repeated ps) n ≡ Some k → refusal_of ls ps n ≡ Some (Twice k)
           unfolding refusal_of
           has_twice k e = rw (eq-eqb (length ls) 768 l, eq-eqb (length ps) (5 * n) s, le-ltb 200 n m, f, e)
@@ -50,7 +56,7 @@ pub record Sound (ls ps : List ℕ) (n : ℕ) : Type 0 where
   pub whole : length ls ≡ 768
   pub fives : length ps ≡ 5 * n
   pub few : n ≤ 200
-  pub known : first_place (foreign ps) n ≡ None
+  pub known : first_place (foreign false ps) n ≡ None
   pub apart : first_place (repeated ps) n ≡ None
 
 pub some_or_none : (o : Option ℕ) → ((k : ℕ) × (o ≡ Some k)) ⊎ (o ≡ None)
@@ -61,8 +67,8 @@ some_or_none (Some k) = inl (k, refl)
 module _ (ls ps : List ℕ) (n : ℕ) (P : Option Refusal → Type 0) where
   pub by_refusal :
       P (Some Letters) → P (Some Shape) → P (Some TooMany) →
-      ((k : ℕ) → first_place (foreign ps) n ≡ Some k → P (Some (Foreign k))) →
-      ((k : ℕ) → first_place (foreign ps) n ≡ None → first_place (repeated ps) n ≡ Some k → P (Some (Twice k))) →
+      ((k : ℕ) → first_place (foreign false ps) n ≡ Some k → P (Some (Foreign k))) →
+      ((k : ℕ) → first_place (foreign false ps) n ≡ None → first_place (repeated ps) n ≡ Some k → P (Some (Twice k))) →
       (Sound ls ps n → P None) → P (refusal_of ls ps n)
   by_refusal a b c d f g =
       ⊎_elim
@@ -75,7 +81,7 @@ module _ (ls ps : List ℕ) (n : ℕ) (P : Option Refusal → Type 0) where
       (λ r. subst⁻¹ P (has_twice ls ps n l s m q r.0 r.1) (f r.0 q r.1))
       (λ r. subst⁻¹ P (no_refusal ls ps n l s m q r) (g (record { whole = l; fives = s; few = m; known = q; apart = r })))
       (some_or_none (first_place (repeated ps) n)))
-      (some_or_none (first_place (foreign ps) n)))
+      (some_or_none (first_place (foreign false ps) n)))
       (cases_lt 200 n))
       (λ s. subst⁻¹ P (wrong_shape ls ps n l s) b)
       (cases_eq (length ps) (5 * n)))
@@ -109,7 +115,7 @@ pub fifth : (m n : ℕ) → m ≡ 5 * n → m / 5 ≡ n
 fifth m n e = omega arith
 
 -- where the letters are known, what is left to find is a pair that is there twice
-pub twice_left : (ls ps : List ℕ) (n : ℕ) → shape_refusal (length ls) (length ps) n ≡ None → first_place (foreign ps) n ≡ None →
+pub twice_left : (ls ps : List ℕ) (n : ℕ) → shape_refusal (length ls) (length ps) n ≡ None → first_place (foreign false ps) n ≡ None →
     refusal_of ls ps n ≡ at_place Twice (first_place (repeated ps) n) None
 unfolding refusal_of
 twice_left ls ps n e f = rw (e, f)
@@ -117,3 +123,12 @@ twice_left ls ps n e f = rw (e, f)
 pub refused : (ls ps : List ℕ) (n : ℕ) (why : Refusal) (r : Result Table Refusal) → IsErrAnd r (λ e. e ≡ why) → refusal_of ls ps n ≡ Some why → Checked ls ps n r
 refused ls ps n why (Ok t) h e = absurd h
 refused ls ps n why (Err w) h e = e ∙ ap Some (sym h)
+
+-- what an entry that is taken is
+pub letter_free : (t : Rules) (k : ℕ) (e : Letter) → letter_refusal t k e ≡ None → counts e.weights ≡ true → (is_letter_of t.utf8 e.letter ≡ true) × (counts (t.weighs (e.letter ∷ [])) ≡ false)
+letter_free t k e n c = (grind (arith, nat_tests), grind (arith, nat_tests))
+
+pub letter_refused : (b : TableBuf) (e : Letter) (why : Refusal) (r : Result Unit (Failure Refusal)) → IsErrAnd r (λ x. x ≡ Refused why)
+    → letter_refusal (buffer_rules b) (buffer_letters b) e ≡ Some why → LetterAdded b e r b
+letter_refused b e why (Ok x) h q = absurd h
+letter_refused b e why (Err f) h q = subst⁻¹ (λ x. LetterAdded b e (Err x) b) h (q, refl)

@@ -1,12 +1,17 @@
 -- The weights of one letter written over those it had.
-use Rattle.std.proofs.Common.{◌≡◌, ℕ, ◌+◌, ◌*◌, ◌<◌, cond, ◌≢◌, List, [], ◌∷◌, length, get_or, set, refl, ◌∙◌, ⊎_elim, arith}
+use Rattle.std.proofs.Common.{◌≡◌, ℕ, zero, suc, ◌+◌, ◌*◌, ◌<◌, ◌≤◌, Bool, true, false, cond, ◌≢◌, List, [], ◌∷◌, length, get_or, replicate, set, refl, ap, ◌∙◌, ⊎_elim, add-one, arith}
 use Rattle.std.proofs.lemmas.List.{length-set, get_or-set_same, get_or-set_other}
-use Rattle.std.proofs.lemmas.Bool.{cases_eq, eq-eqb, ne_eqb}
+use Rattle.std.proofs.lemmas.Bool.{cases_eq, eq-eqb, lt-ltb, ne_eqb}
+use Rattle.std.proofs.lemmas.List.Edits.{length-insert}
 use Rattle.std.proofs.lemmas.Bool.Decides.{nat_tests}
+use Rattle.table.specs.declared.piece.Letter.{Letter}
 use Rattle.table.specs.declared.piece.Weights.{Weights}
 use Rattle.table.specs.Numbers.{weights_at, weights_set}
-use Rattle.table.specs.Rules.{same_run, weighs_in, rules_in, with_letter}
-use Rattle.table.proofs.Saying.{same_rules, same_weights}
+use Rattle.table.specs.Buffer.{letters_weighing, many_below}
+use Rattle.table.specs.Entries.{below}
+use Rattle.table.specs.Rules.{counts, same_run, weighs_in, rules_by, with_letter}
+use Rattle.table.proofs.Entries.{below_most, put, weighs_put}
+use Rattle.table.proofs.Saying.{same_rules, same_weights, zero_weights}
 
 pub length_written : (ls : List ℕ) (i : ℕ) (w : Weights) → length (weights_set ls i w) ≡ length ls
 length_written ls i w = simp length-set
@@ -33,17 +38,79 @@ weights_elsewhere ls a b w h =
     (elsewhere ls (3 * a) w (3 * b + 1) (omega arith) (omega arith) (omega arith))
     (elsewhere ls (3 * a) w (3 * b + 2) (omega arith) (omega arith) (omega arith))
 
-module _ (ls ps : List ℕ) (n a : ℕ) (w : Weights) (h : 3 * a + 2 < length ls) where
-  weighs_set : (run : List ℕ) → weighs_in (weights_set ls (3 * a) w) ps n run ≡ cond (same_run (a ∷ []) run) w (weighs_in ls ps n run)
-  unfolding weighs_in
-  weighs_set [] = refl
-  weighs_set (b ∷ []) =
-      ⊎_elim
-      (λ e. let t = eq-eqb a b e in rw (t, ← e) (weights_here ls (3 * a) w h))
-      (λ e. let t = ne_eqb a b e in rw t (weights_elsewhere ls a b w e))
-      (cases_eq a b)
-  weighs_set (b ∷ (c ∷ [])) = grind (arith, nat_tests)
-  weighs_set (b ∷ (c ∷ (d ∷ run))) = grind (arith, nat_tests)
+-- one number more passes the test
+many_same : (f g : ℕ → Bool) (n : ℕ) → ((b : ℕ) → b < n → g b ≡ f b) → many_below g n ≡ many_below f n
+unfolding many_below
+many_same f g zero h = refl
+many_same f g (suc n) h = let ih = many_same f g n (λ b l. h b (omega arith)) in let e = h n (omega arith) in rw (ih, e)
 
-  pub letter_set : rules_in (weights_set ls (3 * a) w) ps n ≡ with_letter (rules_in ls ps n) a w
-  letter_set = same_rules (rules_in (weights_set ls (3 * a) w) ps n) (with_letter (rules_in ls ps n) a w) (λ run. refl) weighs_set
+many_more : (f g : ℕ → Bool) (a : ℕ) → f a ≡ false → g a ≡ true → ((b : ℕ) → a ≢ b → g b ≡ f b) → (n : ℕ) → a < n → many_below g n ≡ many_below f n + 1
+unfolding many_below
+many_more f g a x y h zero l = absurd (omega arith)
+many_more f g a x y h (suc n) l =
+    ⊎_elim
+    (λ e. let q : many_below g n ≡ many_below f n = many_same f g n (λ b m. h b (omega (arith, e, m))) in rw (q, ← e, x, y) (omega arith))
+    (λ e. let q : many_below g n ≡ many_below f n + 1 = many_more f g a x y h n (omega (arith, l, e)) in let r = h n e in rw (q, r) (omega arith))
+    (cases_eq a n)
+
+many_none : (f : ℕ → Bool) (n : ℕ) → ((b : ℕ) → f b ≡ false) → many_below f n ≡ 0
+unfolding many_below
+many_none f zero h = refl
+many_none f (suc n) h = let ih = many_none f n h in let e = h n in rw (ih, e)
+
+pub many_most : (f : ℕ → Bool) (n : ℕ) → many_below f n ≤ n
+unfolding many_below
+many_most f zero = omega arith
+many_most f (suc n) = let ih = many_most f n in grind (arith, nat_tests)
+
+pub none_below : (f : ℕ → Bool) → many_below f 0 ≡ 0
+unfolding many_below
+none_below f = refl
+
+pub many_next : (f : ℕ → Bool) (n : ℕ) → many_below f (n + 1) ≡ many_below f n + cond (f n) 1 0
+unfolding many_below
+many_next f n = rw (add-one n)
+
+-- where there are only zeros no letter weighs anything
+pub none_weigh : letters_weighing (replicate 768 0) [] ≡ 0
+none_weigh =
+    let e = many_none (λ a. counts (weights_at (replicate 768 0) (3 * a))) 256 (λ b. ap counts (zero_weights (3 * b))) in
+    omega arith
+
+module _ (u : Bool) (ls : List ℕ) (os : List Letter) (ps : List ℕ) (n : ℕ) where
+  -- a letter below 256
+  module _ (a : ℕ) (w : Weights) (h : a < 256) (l : length ls ≡ 768) where
+    weighs_set : (run : List ℕ) → weighs_in (weights_set ls (3 * a) w) os ps n run ≡ cond (same_run (a ∷ []) run) w (weighs_in ls os ps n run)
+    unfolding weighs_in
+    weighs_set [] = refl
+    weighs_set (b ∷ []) =
+        ⊎_elim
+        (λ e. let t = eq-eqb a b e in let m = lt-ltb a 256 h in rw (t, ← e, m) (weights_here ls (3 * a) w (omega (arith, h, l))))
+        (λ e. let t = ne_eqb a b e in let q = weights_elsewhere ls a b w e in rw (t, q))
+        (cases_eq a b)
+    weighs_set (b ∷ (c ∷ [])) = grind (arith, nat_tests)
+    weighs_set (b ∷ (c ∷ (d ∷ run))) = grind (arith, nat_tests)
+
+    pub letter_set : rules_by u (weights_set ls (3 * a) w) os ps n ≡ with_letter (rules_by u ls os ps n) a w
+    letter_set = same_rules (rules_by u (weights_set ls (3 * a) w) os ps n) (with_letter (rules_by u ls os ps n) a w) (λ run. refl) weighs_set refl
+
+    pub one_more_set : counts w ≡ true → counts (weights_at ls (3 * a)) ≡ false → letters_weighing (weights_set ls (3 * a) w) os ≡ letters_weighing ls os + 1
+    one_more_set c f =
+        let m = many_more (λ b. counts (weights_at ls (3 * b))) (λ b. counts (weights_at (weights_set ls (3 * a) w) (3 * b))) a f (ap counts (weights_here ls (3 * a) w (omega (arith, h, l))) ∙ c)
+        (λ b ne. ap counts (weights_elsewhere ls a b w ne)) 256 h in
+        omega arith
+
+  -- another letter
+  module _ (e : Letter) (h : 256 ≤ e.letter) where
+    weighs_other : (run : List ℕ) → weighs_in ls (put e os) ps n run ≡ cond (same_run (e.letter ∷ []) run) e.weights (weighs_in ls os ps n run)
+    unfolding weighs_in
+    weighs_other [] = refl
+    weighs_other (b ∷ []) = let q = weighs_put e os b in grind (arith, nat_tests)
+    weighs_other (b ∷ (c ∷ [])) = grind (arith, nat_tests)
+    weighs_other (b ∷ (c ∷ (d ∷ run))) = grind (arith, nat_tests)
+
+    pub other_set : rules_by u ls (put e os) ps n ≡ with_letter (rules_by u ls os ps n) e.letter e.weights
+    other_set = same_rules (rules_by u ls (put e os) ps n) (with_letter (rules_by u ls os ps n) e.letter e.weights) (λ run. refl) weighs_other refl
+
+    pub one_more_other : letters_weighing ls (put e os) ≡ letters_weighing ls os + 1
+    one_more_other = let m = length-insert os (below os e.letter) e (below_most os e.letter) in omega arith

@@ -1,12 +1,11 @@
 -- The valley's numbers say what its rule says.
-use Rattle.std.proofs.Common.{◌≡◌, ℕ, ◌+◌, ◌*◌, ◌/◌, ◌%◌, ◌<◌, ◌≤◌, cond, ltb, List, [], ◌∷◌, length, get_or, None, sym, refl, ap, ◌∙◌, ⊎_elim, arith}
+use Rattle.std.proofs.Common.{◌≡◌, ℕ, ◌+◌, ◌*◌, ◌/◌, ◌%◌, ◌<◌, cond, ltb, List, [], ◌∷◌, length, get_or, None, sym, refl, ap, ◌∙◌, ⊎_elim, arith}
 use Rattle.std.proofs.lemmas.List.FromFn.{length-map-range_with_len, get_or-map-range_with_len}
-use Rattle.std.proofs.lemmas.List.{get_or_past}
-use Rattle.std.proofs.lemmas.Bool.{cases_lt, lt-ltb, le-ltb, cond-true, cond-false}
+use Rattle.std.proofs.lemmas.Bool.{cases_lt, lt-ltb, le-ltb}
 use Rattle.std.proofs.lemmas.Bool.Decides.{nat_tests}
 use Rattle.table.specs.Numbers.{weights_at, place_in}
 use Rattle.table.specs.Refusals.{refusal_of, first_place}
-use Rattle.table.specs.Rules.{nothing, same_run, joins_in, weighs_in, rules_in}
+use Rattle.table.specs.Rules.{nothing, letter_weighs, same_run, joins_in, weighs_in, weights_among, rules_in}
 use Rattle.table.specs.Valley.{valley, valley_letter, valley_weighs, valley_list, valley_pair, level}
 use Rattle.table.proofs.Saying.{same_rules, same_weights}
 
@@ -32,16 +31,12 @@ letter_known a l =
     let p = ap (λ i. get_or numbers i 0) (sym z) ∙ number_at a 0 l (omega arith) in
     same_weights _ _ p (number_at a 1 l (omega arith)) (number_at a 2 l (omega arith))
 
-letter_past : (a : ℕ) → 256 ≤ a → weights_at numbers (3 * a) ≡ nothing
-letter_past a l =
-    let e = numbers_end in
-    same_weights _ _ (get_or_past numbers (3 * a) 0 (omega arith)) (get_or_past numbers (3 * a + 1) 0 (omega arith)) (get_or_past numbers (3 * a + 2) 0 (omega arith))
-
-letter_weighs : (a : ℕ) → weights_at numbers (3 * a) ≡ cond (ltb a 256) (valley_letter a) nothing
-letter_weighs a =
+letter_known_or : (a : ℕ) → letter_weighs numbers [] a ≡ cond (ltb a 256) (valley_letter a) nothing
+unfolding weights_among
+letter_known_or a =
     ⊎_elim
-    (λ l. letter_known a l ∙ sym (cond-true (ltb a 256) (valley_letter a) nothing (lt-ltb a 256 l)))
-    (λ l. letter_past a l ∙ sym (cond-false (ltb a 256) (valley_letter a) nothing (le-ltb a 256 l)))
+    (λ l. let t = lt-ltb a 256 l in rw t (letter_known a l))
+    (λ l. let t = le-ltb a 256 l in rw t)
     (cases_lt a 256)
 
 joins_as : (run : List ℕ) → joins_in valley_pair 1 run ≡ same_run (99 ∷ (104 ∷ [])) run
@@ -51,15 +46,15 @@ joins_as (a ∷ []) = grind (arith, nat_tests)
 joins_as (a ∷ (b ∷ [])) = grind (arith, nat_tests)
 joins_as (a ∷ (b ∷ (c ∷ run))) = grind (arith, nat_tests)
 
-weighs_as : (run : List ℕ) → weighs_in numbers valley_pair 1 run ≡ valley_weighs run
+weighs_as : (run : List ℕ) → weighs_in numbers [] valley_pair 1 run ≡ valley_weighs run
 unfolding weighs_in place_in
 weighs_as [] = refl
-weighs_as (a ∷ []) = letter_weighs a
+weighs_as (a ∷ []) = letter_known_or a
 weighs_as (a ∷ (b ∷ [])) = grind (arith, nat_tests)
 weighs_as (a ∷ (b ∷ (c ∷ run))) = grind (arith, nat_tests)
 
 pub valley_rules : rules_in numbers valley_pair 1 ≡ valley
-valley_rules = same_rules (rules_in numbers valley_pair 1) valley joins_as weighs_as
+valley_rules = same_rules (rules_in numbers valley_pair 1) valley joins_as weighs_as refl
 
 pub valley_kept : refusal_of numbers valley_pair 1 ≡ None
 unfolding refusal_of first_place place_in

@@ -24,11 +24,11 @@ heads_of ps n = map (last_in ps n) (range_with_len 0 256)
 abbrev pub link_of : List ℕ → ℕ → Option ℕ
 link_of ps k = last_in ps k (bucket_at ps k)
 
--- one of the first n pairs begins with the letter
-unfoldable pub begun : List ℕ → (n : ℕ) → (letter : ℕ) → Bool
+-- one of the first n pairs begins with a letter that has this remainder by 256: letters below 256 are told apart so
+unfoldable pub begun : List ℕ → (n : ℕ) → (remainder : ℕ) → Bool
 begun ps zero a = false
-begun ps (suc k) a = first_at ps k == a || begun ps k a
+begun ps (suc k) a = first_at ps k % 256 == a || begun ps k a
 
--- the same of each letter
+-- the same of each remainder
 abbrev pub marks_of : List ℕ → (n : ℕ) → List Bool
 marks_of ps n = map (begun ps n) (range_with_len 0 256)

@@ -1,31 +1,33 @@
 -- What is promised of tables, in words that do not go by how they are checked. Which of several faults is told is said by
 -- `refusal_of` alone.
-use Rattle.std.specs.Prelude.{◌≡◌, ℕ, ◌+◌, ◌*◌, ◌<◌, ◌≤◌, true, List, [], ◌∷◌, ◌++◌, length, Some, None}
+use Rattle.std.specs.Prelude.{◌≡◌, ℕ, ◌+◌, ◌*◌, ◌<◌, ◌≤◌, Bool, true, false, List, [], ◌∷◌, ◌++◌, length, Some, None}
 use Rattle.std.specs.List.{slice_get}
 use Rattle.table.specs.declared.fault.Refusal.TheVariants.{Foreign, Twice}
+use Rattle.table.specs.declared.piece.Letter.{Letter}
 use Rattle.table.specs.declared.piece.Pair.{Pair}
 use Rattle.table.specs.declared.view.Table.{Table}
 use Rattle.table.specs.Buffer.{pair_refusal}
-use Rattle.table.specs.Meaning.{pairs_of, rules_of}
+use Rattle.table.specs.Meaning.{letters_of, pairs_of, rules_of}
 use Rattle.table.specs.Numbers.{first_at, second_at, weights_at, numbers_of, pairs_in}
-use Rattle.table.specs.Refusals.{refusal_of}
-use Rattle.table.specs.Rules.{contraction, rules_in}
+use Rattle.table.specs.Refusals.{last_letter, refusal_of}
+use Rattle.table.specs.Entries.{is_other}
+use Rattle.table.specs.Rules.{contraction, counts, nothing, rules_in}
 use Rattle.table.specs.Valley.{valley, valley_list, valley_pair, valley_pairs}
 
 -- the pairs at places j and k are of the same two letters
 abbrev pub SamePair : List ℕ → ℕ → ℕ → Type 0
 SamePair ps j k = (first_at ps j ≡ first_at ps k) × (second_at ps j ≡ second_at ps k)
 
--- the pair at place k is of letters 0 to 255
-abbrev pub KnownPair : List ℕ → ℕ → Type 0
-KnownPair ps k = (first_at ps k < 256) × (second_at ps k < 256)
+-- the letters of the pair at place k are not above the last that a pair may have: 255, or of names in UTF-8 65,535
+abbrev pub KnownPair : (utf8 : Bool) → List ℕ → ℕ → Type 0
+KnownPair utf8 ps k = (first_at ps k ≤ last_letter utf8) × (second_at ps k ≤ last_letter utf8)
 
--- numbers are a table: 768 weights, five numbers for each of at most 200 pairs, of known letters, none there twice
+-- numbers are a table of bytes: 768 weights, five numbers for each of at most 200 pairs, of known letters, none there twice
 pub record IsTable (ls ps : List ℕ) (n : ℕ) : Type 0 where
   pub whole : length ls ≡ 768
   pub fives : length ps ≡ 5 * n
   pub few : n ≤ 200
-  pub known : (k : ℕ) → k < n → KnownPair ps k
+  pub known : (k : ℕ) → k < n → KnownPair false ps k
   pub apart : (j k : ℕ) → j < k → k < n → SamePair ps j k → ⊥
 
 -- numbers are taken exactly if they are a table
@@ -36,13 +38,13 @@ ExactlyTables = (ls ps : List ℕ) (n : ℕ) → (refusal_of ls ps n ≡ None �
 abbrev pub FirstForeign : Type 0
 FirstForeign =
     (ls ps : List ℕ) (n k : ℕ) → refusal_of ls ps n ≡ Some (Foreign k) →
-    (k < n) × (KnownPair ps k → ⊥) × ((j : ℕ) → j < k → KnownPair ps j)
+    (k < n) × (KnownPair false ps k → ⊥) × ((j : ℕ) → j < k → KnownPair false ps j)
 
 -- the place of a pair that is there twice is that of the first one that equals an earlier one, where all letters are known
 abbrev pub FirstTwice : Type 0
 FirstTwice =
     (ls ps : List ℕ) (n k : ℕ) → refusal_of ls ps n ≡ Some (Twice k) →
-    (k < n) × ((i : ℕ) × (i < k) × SamePair ps i k) × ((i j : ℕ) → i < j → j < k → SamePair ps i j → ⊥) × ((j : ℕ) → j < n → KnownPair ps j)
+    (k < n) × ((i : ℕ) × (i < k) × SamePair ps i k) × ((i j : ℕ) → i < j → j < k → SamePair ps i j → ⊥) × ((j : ℕ) → j < n → KnownPair false ps j)
 
 -- in a table just its pairs are one together, and each weighs what stands behind its letters
 abbrev pub JustPairs : Type 0
@@ -53,13 +55,35 @@ JustPairs =
     × ((rules_in ls ps n).weighs (first_at ps k ∷ (second_at ps k ∷ [])) ≡ weights_at ps (5 * k + 2)))
     × ((run : List ℕ) → (rules_in ls ps n).joins run ≡ true → (k : ℕ) × (k < n) × (run ≡ first_at ps k ∷ (second_at ps k ∷ [])))
 
--- a letter weighs what stands at its place
+-- under a table of bytes a letter weighs what stands at its place, and there are no others
 abbrev pub LettersWeigh : Type 0
-LettersWeigh = (ls ps : List ℕ) (n a : ℕ) → (rules_in ls ps n).weighs (a ∷ []) ≡ weights_at ls (3 * a)
+LettersWeigh =
+    (ls ps : List ℕ) (n a : ℕ) →
+    (a < 256 → (rules_in ls ps n).weighs (a ∷ []) ≡ weights_at ls (3 * a)) × (256 ≤ a → (rules_in ls ps n).weighs (a ∷ []) ≡ nothing)
 
--- whoever holds a table holds numbers that are one
+-- The numbers that a table holds: 768 weights; entries of other letters, each of a letter above 255 that weighs something, and
+-- above those in front of it, and none where names are bytes; and five numbers for each of at most 200 pairs, of known letters,
+-- none there twice.
+pub record Holds (t : Table) : Type 0 where
+  pub whole : length t.letters.now ≡ 768
+  pub others : (k : ℕ) (e : Letter) → slice_get t.others.now k ≡ Some e → is_other e ≡ true
+  pub rise : (j k : ℕ) (e f : Letter) → j < k → slice_get t.others.now j ≡ Some e → slice_get t.others.now k ≡ Some f → e.letter < f.letter
+  pub bytes : t.utf8 ≡ false → t.others.now ≡ []
+  pub fives : length t.pairs.numbers.now ≡ 5 * t.pairs.count
+  pub few : t.pairs.count ≤ 200
+  pub known : (k : ℕ) → k < t.pairs.count → KnownPair t.utf8 t.pairs.numbers.now k
+  pub apart : (j k : ℕ) → j < k → k < t.pairs.count → SamePair t.pairs.numbers.now j k → ⊥
+
+-- whoever holds a table holds such numbers, and they are a table of bytes where names are bytes
 abbrev pub HeldAreTables : Type 0
-HeldAreTables = (t : Table) → IsTable t.letters.now t.pairs.numbers.now t.pairs.count
+HeldAreTables = (t : Table) → Holds t × (t.utf8 ≡ false → IsTable t.letters.now t.pairs.numbers.now t.pairs.count)
+
+-- the letters that a table lists weigh what is listed with them, and no other letter weighs anything
+abbrev pub LettersListed : Type 0
+LettersListed =
+    (t : Table) →
+    ((k : ℕ) (e : Letter) → slice_get (letters_of t) k ≡ Some e → (rules_of t).weighs (e.letter ∷ []) ≡ e.weights)
+    × ((a : ℕ) → counts ((rules_of t).weighs (a ∷ [])) ≡ true → (k : ℕ) × (e : Letter) × (slice_get (letters_of t) k ≡ Some e) × (e.letter ≡ a))
 
 -- the pairs that a table lists are just those that are one together, each with what it weighs
 abbrev pub PairsListed : Type 0
@@ -86,6 +110,7 @@ pub record Laws : Type 0 where
   pub just_pairs : JustPairs
   pub letters_weigh : LettersWeigh
   pub held_are_tables : HeldAreTables
+  pub letters_listed : LettersListed
   pub pairs_listed : PairsListed
   pub valley_says : ValleySays
   pub same_refusal : SameRefusal

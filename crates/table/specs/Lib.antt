@@ -1,8 +1,10 @@
 pub mod Numbers
 pub mod Rules
+pub mod Entries
 pub mod Refusals
 pub mod Chain
 pub mod Meaning
 pub mod Valley
 pub mod Buffer
+pub mod Records
 pub mod Laws

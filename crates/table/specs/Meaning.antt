@@ -1,17 +1,26 @@
 -- What a table that the program holds says, and what checking lent numbers answers.
-use Rattle.std.specs.Prelude.{◌≡◌, ℕ, ◌/◌, List, length, Some, None, Ok, Err, Result}
+use Rattle.std.specs.Prelude.{◌≡◌, ℕ, ◌*◌, ◌/◌, List, ◌++◌, map, length, Some, None, Ok, Err, Result}
 use Rattle.table.specs.declared.fault.Refusal.{Refusal}
 use Rattle.table.specs.declared.fault.Refusal.TheVariants.{Twice}
+use Rattle.std.specs.List.{range_with_len}
 use Rattle.table.specs.declared.pairs.Pairs.{Pairs}
+use Rattle.table.specs.declared.piece.Letter.{Letter}
 use Rattle.table.specs.declared.piece.Pair.{Pair}
 use Rattle.table.specs.declared.view.Table.{Table}
-use Rattle.table.specs.Numbers.{pairs_in}
+use Rattle.table.specs.Numbers.{pairs_in, weights_at}
 use Rattle.table.specs.Refusals.{at_place, first_place, refusal_of, repeated}
-use Rattle.table.specs.Rules.{Rules, rules_in}
+use Rattle.table.specs.Rules.{Rules, rules_by, rules_in}
 
 -- Its rules, and its pairs: two clauses where both are said, since most proofs cite one of them.
 abbrev pub rules_of : Table → Rules
-rules_of t = rules_in t.letters.now t.pairs.numbers.now t.pairs.count
+rules_of t = rules_by t.utf8 t.letters.now t.others.now t.pairs.numbers.now t.pairs.count
+
+-- its letters: those below 256, each with what it weighs, and behind them those that have an entry; no other weighs anything
+abbrev pub letters_in : (letters : List ℕ) → (others : List Letter) → List Letter
+letters_in ls os = map (λ a. record { letter = a; weights = weights_at ls (3 * a) }) (range_with_len 0 256) ++ os
+
+abbrev pub letters_of : Table → List Letter
+letters_of t = letters_in t.letters.now t.others.now
 
 -- its pairs, in the order of their places
 abbrev pub pairs_of : Table → List Pair
@@ -26,7 +35,7 @@ abbrev pub AllChained : List ℕ → Result Unit Refusal → Pairs → Type 0
 AllChained ps (Ok x) p = AreChained ps (length ps / 5) p
 AllChained ps (Err why) p = at_place Twice (first_place (repeated ps) (length ps / 5)) None ≡ Some why
 
--- numbers are a table, which says what they say; or they are turned away
+-- numbers are a table of bytes, which says what they say; or they are turned away
 abbrev pub Checked : (letters pairs : List ℕ) → (n : ℕ) → Result Table Refusal → Type 0
 Checked ls ps n (Ok t) = (refusal_of ls ps n ≡ None) × (rules_of t ≡ rules_in ls ps n) × (pairs_of t ≡ pairs_in ps n)
 Checked ls ps n (Err why) = refusal_of ls ps n ≡ Some why

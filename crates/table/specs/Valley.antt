@@ -1,5 +1,5 @@
 -- The valley's table: the rule that its numbers follow.
-use Rattle.std.specs.Prelude.{ℕ, ◌-◌, ◌*◌, ◌/◌, ◌%◌, cond, List, [], ◌∷◌, map, ◌==◌, nat_lt}
+use Rattle.std.specs.Prelude.{ℕ, ◌-◌, ◌*◌, ◌/◌, ◌%◌, cond, false, List, [], ◌∷◌, map, ◌==◌, nat_lt}
 use Rattle.std.specs.List.{range_with_len}
 use Rattle.std.specs.Int.{is_in_range}
 use Rattle.table.specs.declared.piece.Pair.{Pair}
@@ -24,9 +24,9 @@ valley_weighs [] = nothing
 valley_weighs (a ∷ []) = cond (nat_lt a 256) (valley_letter a) nothing
 valley_weighs (a ∷ (b ∷ run)) = cond (same_run (99 ∷ (104 ∷ [])) (a ∷ (b ∷ run))) (weigh 35 1 1) nothing
 
--- what the valley's table says
+-- what the valley's table says; its names are bytes
 abbrev pub valley : Rules
-valley = record { joins = same_run (99 ∷ (104 ∷ [])); weighs = valley_weighs }
+valley = record { joins = same_run (99 ∷ (104 ∷ [])); weighs = valley_weighs; utf8 = false }
 
 -- the weight of a level, counted from 0
 abbrev pub level : ℕ → Weights → ℕ

@@ -1,14 +1,31 @@
 // A table that owns its numbers and is filled step by step.
-ghost use Rattle.std.specs.Prelude.{◌≡◌, ◌/◌, length, None};
-ghost use Rattle.table.specs.Refusals.{refusal_of};
+ghost use Rattle.std.specs.Prelude.{◌≡◌, ◌*◌, ◌/◌, ◌≤◌, [], None, false, length, true};
+ghost use Rattle.std.specs.List.{list_all};
+ghost use Rattle.table.specs.Entries.{ascends, is_other};
+ghost use Rattle.table.specs.Refusals.{first_place, foreign, repeated};
+
+use crate::piece::Letter;
 
 mod copy;
 mod fill;
+mod records;
 
-// Numbers that would pass the check at any time.
+// Numbers that are a table at any time.
 #[derive(Drop)]
 pub struct TableBuf {
+    // Three weights for each letter below 256.
     letters: Vec<u16>,
+    // What other letters weigh, in the order of their letters; none where names are bytes.
+    others: Vec<Letter>,
+    // Five numbers for each pair.
     pairs: Vec<u16>,
-    ghost sound: { refusal_of letters.items pairs.items (length pairs.items / 5) ≡ None },
+    utf8: bool,
+    ghost whole: { length letters.items ≡ 768 },
+    ghost fives: { length pairs.items ≡ 5 * (length pairs.items / 5) },
+    ghost few: { length pairs.items / 5 ≤ 200 },
+    ghost known: { first_place (foreign utf8 pairs.items) (length pairs.items / 5) ≡ None },
+    ghost apart: { first_place (repeated pairs.items) (length pairs.items / 5) ≡ None },
+    ghost ascends: { ascends others.items ≡ true },
+    ghost others_weigh: { list_all is_other others.items ≡ true },
+    ghost bytes: { utf8 ≡ false → others.items ≡ [] },
 }

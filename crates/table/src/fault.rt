@@ -3,6 +3,7 @@ ghost use Rattle.std.specs.Prelude.{◌≡◌};
 ghost use Rattle.table.specs.Refusals.{refusal_number, refusal_place};
 ghost use Rattle.table.specs.declared.fault.Failure.TheVariants.{NoMemory, Refused};
 
+use crate::view::Table;
 use std::alloc::AllocError;
 
 #[derive(Clone, Copy, PartialEq, Eq, Debug)]
@@ -13,27 +14,46 @@ pub enum Refusal {
     Shape,
     // There are more than 200 pairs.
     TooMany,
-    // The first pair with a letter above 255: its place.
+    // The first pair with a letter above 255, or of a table of names in UTF-8 above 65,535: its place.
     Foreign(usize),
     // The first pair that equals an earlier one: its place.
     Twice(usize),
+    // There are more than 2,000 letters that weigh something.
+    TooManyLetters,
+    // What weighs something is no letter of the table: the place of the entry.
+    NoLetter(usize),
+    // A letter that weighs something already: the place of the entry.
+    LetterTwice(usize),
 }
 
 impl Refusal {
-    // The number that is reported: 1 for every fault of a table. Messages and `make_key` say it as a number.
+    // The number that is reported: 4 for a fault of letters, and 1 for every other. Messages and `make_key` say it as a
+    // number.
     pub fn number(self) -> u64
         ensures { result ≡ refusal_number self }
     {
-        1
+        match self {
+            Refusal::Letters
+            | Refusal::Shape
+            | Refusal::TooMany
+            | Refusal::Foreign(_)
+            | Refusal::Twice(_) => 1,
+            Refusal::TooManyLetters | Refusal::NoLetter(_) | Refusal::LetterTwice(_) => 4,
+        }
     }
 
-    // The pair at fault, counted from 0; else 0, and not `None`, since what is reported always has a place.
+    // The pair or the entry at fault, counted from 0; of too many letters how many there may be; else 0, and not `None`,
+    // since what is reported always has a place.
     pub fn place(self) -> usize
         ensures { result ≡ refusal_place self }
     {
         match self {
             Refusal::Letters | Refusal::Shape | Refusal::TooMany => 0,
-            Refusal::Foreign(k) | Refusal::Twice(k) => k,
+            Refusal::TooManyLetters => Table::MAX_LETTERS,
+            Refusal::Foreign(k)
+            | Refusal::Twice(k)
+            | Refusal::NoLetter(k)
+            | Refusal::LetterTwice(k) => k,
         }
     }
 }

@@ -1,7 +1,7 @@
 // How weights and pairs lie in the numbers of a table.
 ghost use Rattle.std.specs.Prelude.{◌≡◌, ◌+◌, ◌*◌, ◌<◌, length, vec_len};
 ghost use Rattle.table.specs.Numbers.{numbers_of, pair_at, weights_at, weights_set};
-ghost use Rattle.table.specs.Refusals.{known_letters};
+ghost use Rattle.table.specs.Refusals.{last_letter, unknown};
 
 use crate::piece::{Pair, Weights};
 
@@ -42,8 +42,8 @@ pub(crate) fn read_pair(numbers: &[u16], place: usize) -> Pair
     requires { 5 * place + 4 < length numbers.now }
     ensures { result ≡ pair_at numbers.now place }
 {
-    let first = numbers[5 * place];
-    let second = numbers[5 * place + 1];
+    let first = numbers[5 * place] as u32;
+    let second = numbers[5 * place + 1] as u32;
     let weights = weights_at(numbers, 5 * place + 2);
     Pair {
         first,
@@ -52,19 +52,32 @@ pub(crate) fn read_pair(numbers: &[u16], place: usize) -> Pair
     }
 }
 
-// The five numbers of a pair.
-impl From<Pair> for [u16; 5] {
-    ghost from_gives = { λ pair r. r ≡ numbers_of pair };
-
-    fn from(pair: Pair) -> [u16; 5] {
-        let w = pair.weights;
-        [pair.first, pair.second, w.primary, w.secondary, w.tertiary]
-    }
+// The five numbers of a pair, whose letters are below 65,536.
+pub(crate) fn numbers_of(pair: Pair) -> [u16; 5]
+    requires { (pair.first < 65536) × (pair.second < 65536) }
+    ensures { result ≡ numbers_of pair }
+{
+    let w = pair.weights;
+    [
+        pair.first as u16,
+        pair.second as u16,
+        w.primary,
+        w.secondary,
+        w.tertiary,
+    ]
 }
 
-// The letters of a pair, where both are below 256. Two numbers, as they lie in a pair.
-pub(crate) fn known_letters(first: u16, second: u16) -> Option<(u8, u8)>
-    ensures { result ≡ known_letters first second }
+// Whether one of two letters is above those that a pair may have. Two numbers, as they lie in a pair.
+pub(crate) fn unknown(utf8: bool, first: u32, second: u32) -> bool
+    ensures { result ≡ unknown utf8 first second }
 {
-    Some((u8::try_from(first).ok()?, u8::try_from(second).ok()?))
+    let last = last_letter(utf8);
+    first > last || second > last
+}
+
+// The last letter that a pair may have.
+fn last_letter(utf8: bool) -> u32
+    ensures { result ≡ last_letter utf8 }
+{
+    if utf8 { 65535 } else { 255 }
 }

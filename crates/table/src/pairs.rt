@@ -2,7 +2,7 @@
 // the first, so that looking one up meets few others.
 ghost use Rattle.std.specs.Prelude.{◌≡◌, ℕ, ◌*◌, ◌<◌, ◌≤◌, length, None, slice_index_or};
 ghost use Rattle.table.specs.Chain.{heads_of, link_of, marks_of};
-ghost use Rattle.table.specs.Refusals.{first_place, foreign, repeated};
+ghost use Rattle.table.specs.Refusals.{first_place, repeated};
 
 mod chain;
 mod find;
@@ -12,7 +12,7 @@ pub struct Pairs<'a> {
     numbers: &'a [u16],
     // How many of them are chained: the first so many, and all in a table. While they are chained it says how far that is.
     count: usize,
-    // For each letter whether a pair begins with it, so that most letters cost one look.
+    // For each remainder by 256 whether a pair begins with a letter that has it, so that most letters cost one look.
     begins: [bool; 256],
     // For each bucket the last pair that is in it. Places in arrays, and not lists, since a table asks for no memory.
     heads: [Option<u8>; 256],
@@ -20,7 +20,6 @@ pub struct Pairs<'a> {
     links: [Option<u8>; 200],
     ghost within: { 5 * count ≤ length numbers.now },
     ghost few: { count ≤ 200 },
-    ghost known: { first_place (foreign numbers.now) count ≡ None },
     ghost apart: { first_place (repeated numbers.now) count ≡ None },
     ghost marked: { begins ≡ marks_of numbers.now count },
     ghost begun: { heads ≡ heads_of numbers.now count },

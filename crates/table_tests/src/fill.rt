@@ -1,54 +1,27 @@
-// A table filled step by step.
-use crate::hold::hold_letters;
-use std::process::Abort;
+// A table of bytes filled step by step.
+use crate::hold::{Added, NONE, ONE, TWO, add_letters, add_pair, hold_letters, pair};
 use std::test::Fail;
-use table::{AddError, Pair, Refusal, TableBuf, Weights};
-
-const ONE: Weights = Weights {
-    primary: 1,
-    secondary: 2,
-    tertiary: 3,
-};
-
-const TWO: Weights = Weights {
-    primary: 4,
-    secondary: 5,
-    tertiary: 6,
-};
-
-const NONE: Weights = Weights {
-    primary: 0,
-    secondary: 0,
-    tertiary: 0,
-};
-
-// Adds a pair, and holds the answer to what it should be.
-fn add(
-    rt: &impl Abort,
-    table: &mut TableBuf,
-    first: u16,
-    second: u16,
-    weights: Weights,
-    answer: Result<(), AddError>,
-) {
-    assert_eq!(rt;
-        table.add_pair(Pair {
-            first,
-            second,
-            weights,
-        }),
-        answer
-    );
-}
+use table::{Refusal, TableBuf};
 
 #[test]
 fn letters(rt: HostRuntime) -> Result<(), Fail> {
     let mut table = TableBuf::new(rt.alloc())?;
+    assert!(rt; !table.table().utf8());
     hold_letters(&rt, &table.table(), &[(0, NONE), (97, NONE), (255, NONE)]);
-    table.set_letter(0, ONE);
-    table.set_letter(255, TWO);
-    table.set_letter(97, ONE);
-    table.set_letter(97, TWO);
+    add_letters(
+        &rt,
+        &mut table,
+        &[
+            Added(0, ONE, None),
+            Added(255, TWO, None),
+            Added(97, TWO, None),
+            Added(97, ONE, Some(Refusal::LetterTwice(3))),
+            Added(97, NONE, None),
+            Added(256, ONE, Some(Refusal::NoLetter(3))),
+            Added(4294967295, ONE, Some(Refusal::NoLetter(3))),
+            Added(256, NONE, None),
+        ],
+    );
     hold_letters(
         &rt,
         &table.table(),
@@ -60,53 +33,29 @@ fn letters(rt: HostRuntime) -> Result<(), Fail> {
             (97, TWO),
             (96, NONE),
             (98, NONE),
+            (256, NONE),
+            (353, NONE),
         ],
     );
+    assert_eq!(rt; table.letter_count(), 3);
+    assert_eq!(rt; table.table().letter_count(), 256);
     Ok(())
 }
 
 #[test]
 fn pairs(rt: HostRuntime) -> Result<(), Fail> {
     let mut table = TableBuf::new(rt.alloc())?;
-    add(&rt, &mut table, 0, 255, ONE, Ok(()));
-    add(&rt, &mut table, 255, 0, TWO, Ok(()));
-    table.set_letter(97, TWO);
-    add(
-        &rt,
-        &mut table,
-        0,
-        255,
-        TWO,
-        Err(AddError::Refused(Refusal::Twice(2))),
-    );
-    add(
-        &rt,
-        &mut table,
-        256,
-        1,
-        ONE,
-        Err(AddError::Refused(Refusal::Foreign(2))),
-    );
-    add(
-        &rt,
-        &mut table,
-        1,
-        65535,
-        ONE,
-        Err(AddError::Refused(Refusal::Foreign(2))),
-    );
+    add_pair(&rt, &mut table, 0, 255, ONE, None);
+    add_pair(&rt, &mut table, 255, 0, TWO, None);
+    add_letters(&rt, &mut table, &[Added(97, TWO, None)]);
+    add_pair(&rt, &mut table, 0, 255, TWO, Some(Refusal::Twice(2)));
+    add_pair(&rt, &mut table, 256, 1, ONE, Some(Refusal::Foreign(2)));
+    add_pair(&rt, &mut table, 1, 65535, ONE, Some(Refusal::Foreign(2)));
     hold_letters(&rt, &table.table(), &[(96, NONE), (97, TWO)]);
     assert_eq!(rt; table.table().pair(0, 255), Some(ONE));
     assert_eq!(rt; table.table().pair(255, 0), Some(TWO));
     assert_eq!(rt; table.table().pair(0, 0), None);
-    assert_eq!(rt;
-        table.table().pair_at(1),
-        Some(Pair {
-            first: 255,
-            second: 0,
-            weights: TWO,
-        })
-    );
+    assert_eq!(rt; table.table().pair_at(1), Some(pair(255, 0, TWO)));
     assert_eq!(rt; table.table().pair_count(), 2);
     Ok(())
 }
@@ -115,33 +64,12 @@ fn pairs(rt: HostRuntime) -> Result<(), Fail> {
 #[test]
 fn many_pairs(rt: HostRuntime) -> Result<(), Fail> {
     let mut table = TableBuf::new(rt.alloc())?;
-    for k in 0..200u16 {
-        add(&rt, &mut table, 7, k, ONE, Ok(()));
+    for k in 0..200u32 {
+        add_pair(&rt, &mut table, 7, k, ONE, None);
     }
-    add(
-        &rt,
-        &mut table,
-        7,
-        200,
-        ONE,
-        Err(AddError::Refused(Refusal::TooMany)),
-    );
-    add(
-        &rt,
-        &mut table,
-        7,
-        0,
-        ONE,
-        Err(AddError::Refused(Refusal::TooMany)),
-    );
-    add(
-        &rt,
-        &mut table,
-        256,
-        0,
-        ONE,
-        Err(AddError::Refused(Refusal::TooMany)),
-    );
+    add_pair(&rt, &mut table, 7, 200, ONE, Some(Refusal::TooMany));
+    add_pair(&rt, &mut table, 7, 0, ONE, Some(Refusal::TooMany));
+    add_pair(&rt, &mut table, 256, 0, ONE, Some(Refusal::TooMany));
     assert_eq!(rt; table.table().pair(7, 199), Some(ONE));
     assert_eq!(rt; table.table().pair_count(), 200);
     Ok(())

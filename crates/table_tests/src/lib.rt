@@ -1,4 +1,4 @@
-// Tables of weights on examples: every refusal with its place, lookups, and filling.
+// Tables of weights on examples: every refusal with its place, lookups, filling, and tables made from records.
 #![tactic(auto)]
 
 #[cfg(test)]
@@ -8,4 +8,8 @@ mod hold;
 #[cfg(test)]
 mod look;
 #[cfg(test)]
+mod records;
+#[cfg(test)]
 mod refuse;
+#[cfg(test)]
+mod wide;

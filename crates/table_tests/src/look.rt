@@ -1,20 +1,7 @@
 // What letters and pairs weigh.
-use crate::hold::hold_letters;
-use std::process::Abort;
+use crate::hold::{hold_letters, hold_pairs, hold_places};
 use std::test::Fail;
 use table::{Pair, Table, Weights};
-
-fn hold_pairs(rt: &impl Abort, table: &Table, cases: &[(u8, u8, Option<Weights>)]) {
-    for (first, second, weights) in cases {
-        assert_eq!(rt; table.pair(*first, *second), *weights);
-    }
-}
-
-fn hold_places(rt: &impl Abort, table: &Table, cases: &[(usize, Option<Pair>)]) {
-    for (place, pair) in cases {
-        assert_eq!(rt; table.pair_at(*place), *pair);
-    }
-}
 
 #[test]
 fn valley(rt: HostRuntime) {
@@ -23,14 +10,14 @@ fn valley(rt: HostRuntime) {
         &rt,
         &valley,
         &[
-            (b'a', Weights::from([10, 1, 1])),
-            (b'z', Weights::from([260, 1, 1])),
-            (b'A', Weights::from([10, 1, 2])),
-            (b'Z', Weights::from([260, 1, 2])),
-            (b'\'', Weights::from([0, 2, 1])),
-            (b' ', Weights::from([0, 0, 1])),
-            (b'`', Weights::from([0, 0, 1])),
-            (b'{', Weights::from([0, 0, 1])),
+            (b'a' as u32, Weights::from([10, 1, 1])),
+            (b'z' as u32, Weights::from([260, 1, 1])),
+            (b'A' as u32, Weights::from([10, 1, 2])),
+            (b'Z' as u32, Weights::from([260, 1, 2])),
+            (b'\'' as u32, Weights::from([0, 2, 1])),
+            (b' ' as u32, Weights::from([0, 0, 1])),
+            (b'`' as u32, Weights::from([0, 0, 1])),
+            (b'{' as u32, Weights::from([0, 0, 1])),
             (0, Weights::from([0, 0, 1])),
             (255, Weights::from([0, 0, 1])),
         ],
@@ -39,10 +26,10 @@ fn valley(rt: HostRuntime) {
         &rt,
         &valley,
         &[
-            (b'c', b'h', Some(Weights::from([35, 1, 1]))),
-            (b'h', b'c', None),
-            (b'c', b'c', None),
-            (b'C', b'h', None),
+            (b'c' as u32, b'h' as u32, Some(Weights::from([35, 1, 1]))),
+            (b'h' as u32, b'c' as u32, None),
+            (b'c' as u32, b'c' as u32, None),
+            (b'C' as u32, b'h' as u32, None),
         ],
     );
     hold_places(

@@ -175,18 +175,22 @@ fn many_pairs(rt: HostRuntime) -> Result<(), Fail> {
     Ok(())
 }
 
-// Every refusal of a table has the number 1; its place is the pair's, or 0.
+// A refusal of pairs or of how many numbers there are has the number 1, and one of letters 4. Its place is that of the pair or
+// of the entry, how many letters there may be, or 0.
 #[test]
 fn numbers(rt: HostRuntime) {
     let all = [
-        (Refusal::Letters, 0usize),
-        (Refusal::Shape, 0),
-        (Refusal::TooMany, 0),
-        (Refusal::Foreign(5), 5),
-        (Refusal::Twice(7), 7),
+        (Refusal::Letters, 1, 0usize),
+        (Refusal::Shape, 1, 0),
+        (Refusal::TooMany, 1, 0),
+        (Refusal::Foreign(5), 1, 5),
+        (Refusal::Twice(7), 1, 7),
+        (Refusal::TooManyLetters, 4, 2000),
+        (Refusal::NoLetter(8), 4, 8),
+        (Refusal::LetterTwice(9), 4, 9),
     ];
-    for (why, place) in all {
-        assert_eq!(rt; why.number(), 1);
+    for (why, number, place) in all {
+        assert_eq!(rt; why.number(), number);
         assert_eq!(rt; why.place(), place);
     }
 }

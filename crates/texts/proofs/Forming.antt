@@ -1,25 +1,33 @@
 -- What is read of a line, by the form that it has.
-use Rattle.std.proofs.Common.{◌≡◌, ℕ, ◌<◌, ◌≤◌, inl, inr, Bool, true, false, cond, ◌&&◌, eqb, ltb, List, [], ◌∷◌, ◌++◌, length, codes, Some, None, Option, sym, refl, ap, ◌∙◌, ap₂, subst, rules, arith}
-use Rattle.std.proofs.lemmas.Bool.{ne_eqb, lt-ltb, ltb-true, eqb-true, and_parts}
+use Rattle.std.proofs.Common.{◌≡◌, ℕ, ◌<◌, ◌≤◌, get_or, drop, inl, inr, Bool, true, false, cond, ◌&&◌, eqb, ltb, List, [], ◌∷◌, ◌++◌, length, codes, Some, None, Option, sym, refl, ap, ◌∙◌, ap₂, subst, rules, arith}
+use Rattle.std.proofs.lemmas.Bool.{ltb-true, ltb-false, eqb-true, and_parts, true≢false}
+use Rattle.std.proofs.lemmas.Bool.Decides.{nat_tests}
 use Rattle.std.proofs.lemmas.List.{length-append}
 use Rattle.std.proofs.lemmas.Slice.Eq.{bytes_eq-Decides}
 use Rattle.std.specs.Char.{digit_value}
 use Rattle.std.specs.Option.{SomeIff, option_map}
 use Rattle.std.specs.Str.{bytes_eq}
-use Rattle.std.specs.Str.Parse.{AllDigits, digits_value}
+use Rattle.std.specs.Str.Parse.{AllDigits}
 use Rattle.table.specs.declared.piece.Weights.{Weights}
 use Rattle.texts.specs.declared.line.Entry.{Entry}
 use Rattle.texts.specs.declared.line.Entry.TheVariants.{Letter, Pair}
 use Rattle.texts.specs.declared.line.Word.{Word}
 use Rattle.texts.specs.declared.line.Word.TheVariants as word
 use Rattle.texts.specs.Forms.{AreWeights, HasForm, HasText, IsLetter, IsReserved, IsWeight}
-use Rattle.texts.specs.Laws.{JustItsForm, NoOther}
-use Rattle.texts.specs.Lines.{Meaning, Saying, blank, by_word, command_of, enters, finds, letter_entry, letter_weighs, meaning_of, names, pair_entry, pair_weighs, said, says, text_of, three_weights, unreadable, wants_key, weights_from, word_of}
-use Rattle.texts.specs.Numerals.{hex_digit, hex_of, letter_of, number_of}
+use Rattle.texts.specs.Laws.{HasNone, JustItsForm, NoOther}
+use Rattle.texts.specs.Lines.{Meaning, Saying, blank, by_word, command_of, damaged, enters, finds, letter_entry, letter_weighs, meaning_of, names, pair_entry, pair_weighs, said, says, text_of, three_weights, unreadable, wants_key, weights_from, word_of}
+use Rattle.texts.specs.Numerals.{hex_of, letter_of, number_of, one_letter}
 use Rattle.texts.specs.Parts.{behind, front, words}
 use Rattle.texts.proofs.Cutting.{IsCut, IsFree, behind_free, behind_of, cut, front_free, front_of, parts_first, parts_free, parts_of}
 use Rattle.texts.proofs.Reading.{hex_reads, number_reads, same_some}
-use Rattle.texts.proofs.Saying.{some_line}
+use Rattle.texts.proofs.Damage.{are_read, letters_are}
+use Rattle.texts.proofs.Saying.{blank_line, damaged_line, some_line}
+use Rattle.utf8.specs.Letters.{bytes_of, is_letter}
+use Rattle.utf8.specs.Ranges.{are_letter}
+use Rattle.utf8.specs.Ranges as utf8
+use Rattle.utf8.specs.Reading.{unread}
+use Rattle.utf8.proofs.Lawful.{by_ranges}
+use Rattle.utf8.proofs.Numbers.{in_one, in_three, in_two}
 
 -- `None` is no `Some`
 none_some : {A B : Type 0} (x : A) → None ≡ Some x → B
@@ -41,48 +49,44 @@ weight_read : (w : List ℕ) (n : ℕ) → IsWeight w n → number_of w ≡ Some
 weight_read w n h = some_from (number_of w) _ _ (number_reads w) (h.0, omega arith) ∙ ap Some h.1
 
 -- a letter by its number
-letter_six : (x y b c d i : ℕ) → letter_of (x ∷ (y ∷ (b ∷ (c ∷ (d ∷ (i ∷ [])))))) ≡ cond (eqb x 85 && eqb y 43) (hex_of (hex_digit b) (hex_digit c) (hex_digit d) (hex_digit i)) None
+signed : (w : List ℕ) → (eqb (get_or w 0 0) 85 && eqb (get_or w 1 0) 43) ≡ true → w ≡ 85 ∷ (43 ∷ drop 2 w)
+signed [] e = cc
+signed (x ∷ []) e = let h = and_parts (eqb x 85) false e in absurd (true≢false (sym h.1))
+signed (x ∷ (y ∷ w)) e = let h = and_parts (eqb x 85) (eqb y 43) e in rw (eqb-true x 85 h.0, eqb-true y 43 h.1)
+
+unsigned : (a : ℕ) → (eqb (get_or (bytes_of a) 0 0) 85 && eqb (get_or (bytes_of a) 1 0) 43) ≡ false
+unfolding bytes_of
+unsigned a = grind (arith, nat_tests)
+
+-- a letter as itself
+itself_form : (w : List ℕ) (a : ℕ) → IsFree 32 w → one_letter w ≡ Some a → IsLetter w a
+itself_form w a f e = go (are_letter w) refl e
+  where
+    go : (t : Bool) → are_letter w ≡ t → cond t (Some (utf8.letter_of w)) None ≡ Some a → IsLetter w a
+    go true t e =
+        let k : utf8.letter_of w ≡ a = cc in
+        let h = by_ranges.1 w t in
+        let b : w ≡ bytes_of a = sym h.1 ∙ ap bytes_of k in
+        inl (b, ap is_letter (sym k) ∙ h.0, λ s. (subst (IsFree 32) (b ∙ (ap bytes_of s ∙ in_one 32 (omega arith))) f).0 refl)
+    go false t e = none_some a e
+
+itself_read : (a : ℕ) → is_letter a ≡ true → letter_of (bytes_of a) ≡ Some a
 unfolding letter_of
-letter_six x y b c d i = refl
-
-number_form : (x y b c d i a : ℕ) (t : Bool) → (t ≡ true → (x ≡ 85) × (y ≡ 43)) → cond t (hex_of (hex_digit b) (hex_digit c) (hex_digit d) (hex_digit i)) None ≡ Some a →
-    IsLetter (x ∷ (y ∷ (b ∷ (c ∷ (d ∷ (i ∷ [])))))) a
-number_form x y b c d i a true u e =
-    let h = some_tells (hex_of (hex_digit b) (hex_digit c) (hex_digit d) (hex_digit i)) _ _ a (hex_reads b c d i) e in
-    let k = u refl in
-    inr (b ∷ (c ∷ (d ∷ (i ∷ []))), rw (k.0, k.1), refl, h.0.0.1, h.1)
-number_form x y b c d i a false u e = none_some a e
-
-number_read : (d : List ℕ) → length d ≡ 4 → AllDigits 16 d → letter_of (85 ∷ (43 ∷ d)) ≡ Some (digits_value 16 d)
-number_read [] l h = absurd (omega arith)
-number_read (a ∷ []) l h = absurd (omega arith)
-number_read (a ∷ (b ∷ [])) l h = absurd (omega arith)
-number_read (a ∷ (b ∷ (c ∷ []))) l h = absurd (omega arith)
-number_read (a ∷ (b ∷ (c ∷ (d ∷ [])))) l h =
-    letter_six 85 43 a b c d ∙ some_from (hex_of (hex_digit a) (hex_digit b) (hex_digit c) (hex_digit d)) _ _ (hex_reads a b c d) ((omega arith, h), omega arith)
-number_read (a ∷ (b ∷ (c ∷ (d ∷ (e ∷ r))))) l h = absurd (omega arith)
+itself_read a e = let h = by_ranges.0 a e in rw (unsigned a, h.0, h.1)
 
 -- any letter
-letter_long : (w : List ℕ) → 6 < length w → letter_of w ≡ None
-unfolding letter_of
-letter_long w l = rw (ne_eqb (length w) 1 (omega arith), ne_eqb (length w) 6 (omega arith))
-
 letter_form : (w : List ℕ) (a : ℕ) → IsFree 32 w → letter_of w ≡ Some a → IsLetter w a
 unfolding letter_of
-letter_form [] a f e = none_some a e
-letter_form (x ∷ []) a f e = let k : x ≡ a = cc in inl (ap (λ y. y ∷ []) k, λ s. f.0 (k ∙ s))
-letter_form (x ∷ (y ∷ [])) a f e = none_some a e
-letter_form (x ∷ (y ∷ (b ∷ []))) a f e = none_some a e
-letter_form (x ∷ (y ∷ (b ∷ (c ∷ [])))) a f e = none_some a e
-letter_form (x ∷ (y ∷ (b ∷ (c ∷ (d ∷ []))))) a f e = none_some a e
-letter_form (x ∷ (y ∷ (b ∷ (c ∷ (d ∷ (i ∷ [])))))) a f e =
-    number_form x y b c d i a (eqb x 85 && eqb y 43) (λ t. let h = and_parts (eqb x 85) (eqb y 43) t in (eqb-true x 85 h.0, eqb-true y 43 h.1)) (sym (letter_six x y b c d i) ∙ e)
-letter_form (x ∷ (y ∷ (b ∷ (c ∷ (d ∷ (i ∷ (z ∷ r))))))) a f e = none_some a (sym (letter_long (x ∷ (y ∷ (b ∷ (c ∷ (d ∷ (i ∷ (z ∷ r))))))) (omega arith)) ∙ e)
+letter_form w a f e = go (eqb (get_or w 0 0) 85 && eqb (get_or w 1 0) 43) (signed w) e
+  where
+    go : (t : Bool) → (t ≡ true → w ≡ 85 ∷ (43 ∷ drop 2 w)) → cond t (hex_of (drop 2 w)) (one_letter w) ≡ Some a → IsLetter w a
+    go true u e = let h = some_tells (hex_of (drop 2 w)) _ _ a (hex_reads (drop 2 w)) e in inr (drop 2 w, u refl, h.0.0.0, h.0.0.1, h.0.1, h.1)
+    go false u e = itself_form w a f e
 
 letter_read : (w : List ℕ) (a : ℕ) → IsLetter w a → letter_of w ≡ Some a
 unfolding letter_of
-letter_read w a (inl h) = rw h.0 refl
-letter_read w a (inr h) = ap letter_of h.1 ∙ (number_read h.0 h.2 h.3 ∙ ap Some h.4)
+letter_read w a (inl h) = ap letter_of h.0 ∙ itself_read a h.1
+letter_read w a (inr h) = ap letter_of h.1 ∙ (some_from (hex_of h.0) _ _ (hex_reads h.0) ((h.2, h.3), h.4) ∙ ap Some h.5)
 
 -- a mark that is no digit stands in no number; so no space stands in a weight or a letter
 pub digits_free : (m base : ℕ) → digit_value m ≡ 36 → base ≤ 36 → (w : List ℕ) → AllDigits base w → IsFree m w
@@ -92,9 +96,20 @@ digits_free m base n l (x ∷ w) h = (λ e. let k = ap digit_value e in omega ar
 weight_free : (w : List ℕ) (n : ℕ) → IsWeight w n → IsFree 32 w
 weight_free w n h = digits_free 32 10 refl (omega arith) w h.0.1
 
+bytes_free : (a : ℕ) → (a ≡ 32 → ⊥) → IsFree 32 (bytes_of a)
+bytes_free a n = one (ltb a 128) refl
+  where
+    two : (t : Bool) → 128 ≤ a → ltb a 2048 ≡ t → IsFree 32 (bytes_of a)
+    two true h e = rw (in_two a h (ltb-true a 2048 e)) (λ k. omega arith, (λ k. omega arith, tt))
+    two false h e = rw (in_three a (ltb-false a 2048 e)) (λ k. omega arith, (λ k. omega arith, (λ k. omega arith, tt)))
+
+    one : (t : Bool) → ltb a 128 ≡ t → IsFree 32 (bytes_of a)
+    one true e = rw (in_one a (ltb-true a 128 e)) (n, tt)
+    one false e = two (ltb a 2048) (ltb-false a 128 e) refl
+
 letter_free : (w : List ℕ) (a : ℕ) → IsLetter w a → IsFree 32 w
-letter_free w a (inl h) = rw h.0 (h.1, tt)
-letter_free w a (inr h) = rw h.1 (λ e. absurd (omega arith), (λ e. absurd (omega arith), digits_free 32 16 refl (omega arith) h.0 h.3))
+letter_free w a (inl h) = rw h.0 (bytes_free a h.2)
+letter_free w a (inr h) = rw h.1 (λ e. absurd (omega arith), (λ e. absurd (omega arith), digits_free 32 16 refl (omega arith) h.0 h.4))
 
 -- three weights
 three_form : (a b c : Option ℕ) (w : Weights) → weights_from a b c ≡ Some w → (a ≡ Some w.primary) × (b ≡ Some w.secondary) × (c ≡ Some w.tertiary)
@@ -139,16 +154,14 @@ weights_read y w h =
 
 -- what stands behind the word letter
 abbrev IsLetterEntry : List ℕ → Entry → Type 0
-IsLetterEntry text e = (a : ℕ) × (w : Weights) × (x : List ℕ) × (y : List ℕ) × (e ≡ Letter a w) × IsLetter x a × (a < 256) × AreWeights y w × (text ≡ x ++ 32 ∷ y)
+IsLetterEntry text e =
+    (a : ℕ) × (w : Weights) × (x : List ℕ) × (y : List ℕ) × (e ≡ Letter (record { letter = a; weights = w })) × IsLetter x a × AreWeights y w × (text ≡ x ++ 32 ∷ y)
 
-letter_parts : (a : Option ℕ) (v : Option Weights) (e : Entry) → letter_weighs a v ≡ Some e → (b : ℕ) × (w : Weights) × (a ≡ Some b) × (v ≡ Some w) × (b < 256) × (e ≡ Letter b w)
+letter_parts : (a : Option ℕ) (v : Option Weights) (e : Entry) → letter_weighs a v ≡ Some e →
+    (b : ℕ) × (w : Weights) × (a ≡ Some b) × (v ≡ Some w) × (e ≡ Letter (record { letter = b; weights = w }))
 letter_parts None v e k = none_some e k
 letter_parts (Some a) None e k = none_some e k
-letter_parts (Some a) (Some w) e k = go (ltb a 256) refl k
-  where
-    go : (t : Bool) → ltb a 256 ≡ t → cond t (Some (Letter a w)) None ≡ Some e → (b : ℕ) × (v : Weights) × (Some a ≡ Some b) × (Some w ≡ Some v) × (b < 256) × (e ≡ Letter b v)
-    go true t q = (a, w, refl, refl, ltb-true a 256 t, cc)
-    go false t q = none_some e q
+letter_parts (Some a) (Some w) e k = (a, w, refl, refl, cc)
 
 letter_entry_form : (text : List ℕ) (e : Entry) → letter_entry (words text) ≡ Some e → IsLetterEntry text e
 letter_entry_form text e k = go (cut 32 text)
@@ -157,10 +170,10 @@ letter_entry_form text e k = go (cut 32 text)
     go (inl f) = let h = letter_parts (letter_of text) None e (ap letter_entry (sym (parts_free 32 text f)) ∙ k) in none_some h.1 h.3
     go (inr g) =
         let h = letter_parts (letter_of g.0) (three_weights (words g.1)) e (ap letter_entry (sym (parts_of 32 g.0 g.1 text g.2 g.3)) ∙ k) in
-        (h.0, h.1, g.0, g.1, h.5, letter_form g.0 h.0 g.2 h.2, h.4, weights_form g.1 h.1 h.3, g.3)
+        (h.0, h.1, g.0, g.1, h.4, letter_form g.0 h.0 g.2 h.2, weights_form g.1 h.1 h.3, g.3)
 
-letter_entry_read : (a : ℕ) (w : Weights) (x y : List ℕ) → IsLetter x a → a < 256 → AreWeights y w → letter_entry (words (x ++ 32 ∷ y)) ≡ Some (Letter a w)
-letter_entry_read a w x y h l k = rw (parts_of 32 x y (x ++ 32 ∷ y) (letter_free x a h) refl, letter_read x a h, weights_read y w k, lt-ltb a 256 l) refl
+letter_entry_read : (a : ℕ) (w : Weights) (x y : List ℕ) → IsLetter x a → AreWeights y w → letter_entry (words (x ++ 32 ∷ y)) ≡ Some (Letter (record { letter = a; weights = w }))
+letter_entry_read a w x y h k = rw (parts_of 32 x y (x ++ 32 ∷ y) (letter_free x a h) refl, letter_read x a h, weights_read y w k) refl
 
 -- what stands behind the word pair
 abbrev IsPairEntry : List ℕ → Entry → Type 0
@@ -274,7 +287,7 @@ said_form : (k : Option Word) (p text l : List ℕ) → IsWord k p → HasText p
 said_form (Some word.Letter) p text l w t some same s e =
     let h = entered (letter_entry (words text)) s e in
     let k = letter_entry_form text h.0 h.1 in
-    subst (λ (r : Saying). HasForm r l) (sym (h.2 ∙ ap enters k.4)) (k.2, k.3, k.5, k.6, k.7, has_more p text l k.2 k.3 t k.8 ∙ ap (λ q. q ++ 32 ∷ (k.2 ++ 32 ∷ k.3)) w)
+    subst (λ (r : Saying). HasForm r l) (sym (h.2 ∙ ap enters k.4)) (k.2, k.3, k.5, k.6, has_more p text l k.2 k.3 t k.7 ∙ ap (λ q. q ++ 32 ∷ (k.2 ++ 32 ∷ k.3)) w)
 said_form (Some word.Pair) p text l w t some same s e =
     let h = entered (pair_entry (words text)) s e in
     let k = pair_entry_form text h.0 h.1 in
@@ -292,28 +305,32 @@ text_some : (p n l : List ℕ) → 0 < length p → HasText p n l → 0 < length
 text_some p n l some (inl h) = rw h.0 some
 text_some p n l some (inr h) = rw (h, length-append) (omega arith)
 
-read_with : (k : Option Word) (p text l : List ℕ) → word_of p ≡ k → 0 < length p → IsFree 32 p → HasText p text l → (s : Saying) → by_word k text l ≡ Some s → meaning_of l ≡ says s
-read_with k p text l w some f t s e =
+read_with : (k : Option Word) (p text l : List ℕ) → unread l ≡ None → word_of p ≡ k → 0 < length p → IsFree 32 p → HasText p text l → (s : Saying) → by_word k text l ≡ Some s → meaning_of l ≡ says s
+read_with k p text l u w some f t s e =
     let h = cut_text p text l f t in
-    some_line l (text_some p text l some t) ∙ ap said (ap₂ (λ q n. by_word q n l) (ap word_of h.0 ∙ w) h.1 ∙ e)
+    some_line l u (text_some p text l some t) ∙ ap said (ap₂ (λ q n. by_word q n l) (ap word_of h.0 ∙ w) h.1 ∙ e)
 
-pub form_read : (s : Saying) (l : List ℕ) → HasForm s l → meaning_of l ≡ says s
-form_read (enters (Letter a w)) l h =
-    read_with (Some word.Letter) (codes "letter") (h.0 ++ 32 ∷ h.1) l refl (omega arith) (search (rules, arith)) (inr h.5) (enters (Letter a w))
-    (ap (option_map enters) (letter_entry_read a w h.0 h.1 h.2 h.3 h.4))
-form_read (enters (Pair p)) l h =
-    read_with (Some word.Pair) (codes "pair") (h.0 ++ 32 ∷ (h.1 ++ 32 ∷ h.2)) l refl (omega arith) (search (rules, arith)) (inr h.6) (enters (Pair p))
+pub form_read : (s : Saying) (l : List ℕ) → unread l ≡ None → HasForm s l → meaning_of l ≡ says s
+form_read (enters (Letter e)) l u h =
+    read_with (Some word.Letter) (codes "letter") (h.0 ++ 32 ∷ h.1) l u refl (omega arith) (search (rules, arith)) (inr h.4) (enters (Letter e))
+    (ap (option_map enters) (letter_entry_read e.letter e.weights h.0 h.1 h.2 h.3))
+form_read (enters (Pair p)) l u h =
+    read_with (Some word.Pair) (codes "pair") (h.0 ++ 32 ∷ (h.1 ++ 32 ∷ h.2)) l u refl (omega arith) (search (rules, arith)) (inr h.6) (enters (Pair p))
     (ap (option_map enters) (pair_entry_read p.first p.second p.weights h.0 h.1 h.2 h.3 h.4 h.5))
-form_read (finds n) l h = read_with (Some word.Find) (codes "find") n l refl (omega arith) (search (rules, arith)) h (finds n) refl
-form_read (wants_key n) l h = read_with (Some word.Key) (codes "key") n l refl (omega arith) (search (rules, arith)) h (wants_key n) refl
-form_read (names n) l (inl h) = read_with (Some word.Name) (codes "name") n l refl (omega arith) (search (rules, arith)) h (names n) refl
-form_read (names n) l (inr h) = ap meaning_of h.0 ∙ (some_line n h.1 ∙ ap said (ap (λ k. by_word k (text_of (behind 32 n)) n) (reserved_none n h.2)))
+form_read (finds n) l u h = read_with (Some word.Find) (codes "find") n l u refl (omega arith) (search (rules, arith)) h (finds n) refl
+form_read (wants_key n) l u h = read_with (Some word.Key) (codes "key") n l u refl (omega arith) (search (rules, arith)) h (wants_key n) refl
+form_read (names n) l u (inl h) = read_with (Some word.Name) (codes "name") n l u refl (omega arith) (search (rules, arith)) h (names n) refl
+form_read (names n) l u (inr h) =
+    let e = h.0 in ap meaning_of e ∙ (some_line n (ap unread (sym e) ∙ u) h.1 ∙ ap said (ap (λ k. by_word k (text_of (behind 32 n)) n) (reserved_none n h.2)))
 
--- only an empty line is blank
-meaning_some : (l : List ℕ) (m : Meaning) → meaning_of l ≡ m → (m ≡ blank → ⊥) → 0 < length l
-unfolding meaning_of
-meaning_some [] m e n = absurd (n (sym e))
-meaning_some (x ∷ l) m e n = omega arith
+-- a line that says something, or can't be read, is letters, and is not empty
+spoken : (l : List ℕ) (m : Meaning) → meaning_of l ≡ m → (m ≡ blank → ⊥) → ((k : ℕ) → m ≡ damaged k → ⊥) → (unread l ≡ None) × (0 < length l)
+spoken l m e n d = go (unread l) refl l refl
+  where
+    go : (o : Option ℕ) → unread l ≡ o → (k : List ℕ) → l ≡ k → (unread l ≡ None) × (0 < length l)
+    go (Some k) u r q = absurd (d k (sym e ∙ damaged_line l k u))
+    go None u [] q = absurd (n (sym e ∙ blank_line l u (ap length q)))
+    go None u (x ∷ r) q = let h = ap length q in (u, omega arith)
 
 -- a line says just what its command is
 said_says : (o : Option Saying) (s : Saying) → said o ≡ says s → o ≡ Some s
@@ -322,13 +339,21 @@ said_says (Some r) s e = let h : r ≡ s = cc in ap Some h
 
 -- the laws of forms
 pub just_its_form : JustItsForm
-just_its_form s l =
-    (λ e. let some = meaning_some l (says s) e (λ k. absurd cc) in command_form l some s (said_says (command_of l) s (sym (some_line l some) ∙ e)), form_read s l)
+just_its_form s l = (
+  λ e.
+      let h = spoken l (says s) e (λ k. absurd cc) (λ k q. absurd cc) in
+      (letters_are l h.0, command_form l h.1 s (said_says (command_of l) s (sym (some_line l h.0 h.1) ∙ e))),
+  λ h. form_read s l (are_read l h.0) h.1,
+)
 
 pub no_other : NoOther
-no_other l =
-    (λ e. (meaning_some l unreadable e (λ k. absurd cc), λ s h. absurd (let k = form_read s l h in cc)), λ h. some_line l h.0 ∙ go (command_of l) refl h)
+no_other l = (
+  λ e.
+      let h = spoken l unreadable e (λ k. absurd cc) (λ k q. absurd cc) in
+      (letters_are l h.0, h.1, λ s f. absurd (let k = form_read s l h.0 f in cc)),
+  λ h. some_line l (are_read l h.0) h.1 ∙ go (command_of l) refl h,
+)
   where
-    go : (o : Option Saying) → command_of l ≡ o → (0 < length l) × ((s : Saying) → HasForm s l → ⊥) → said o ≡ unreadable
+    go : (o : Option Saying) → command_of l ≡ o → HasNone l → said o ≡ unreadable
     go None e h = refl
-    go (Some s) e h = absurd (h.1 s (command_form l h.0 s e))
+    go (Some s) e h = absurd (h.2 s (command_form l h.1 s e))

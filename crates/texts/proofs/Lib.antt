@@ -1,4 +1,5 @@
 pub mod Cutting
+pub mod Damage
 pub mod Forming
 pub mod Joining
 pub mod Reading

@@ -1,8 +1,8 @@
 -- Digits read as a number.
-use Rattle.std.proofs.Common.{◌≡◌, ℕ, ◌+◌, ◌*◌, ◌<◌, ◌≤◌, Bool, true, false, cond, ◌&&◌, ltb, leb, List, [], ◌∷◌, length, get_or, drop, is_ok, Some, None, Option, Ok, Err, Result, MatchResult, Decides, sym, refl, ap, ◌∙◌, subst, rules, arith}
-use Rattle.std.proofs.lemmas.Bool.{lt-ltb, le-leb, leb-true, eq-eqb, ne_eqb, true≢false}
+use Rattle.std.proofs.Common.{◌≡◌, ℕ, ◌^◌, ◌<◌, ◌≤◌, ◌⊎◌, inl, inr, Bool, true, false, cond, ◌&&◌, ltb, leb, eqb, List, [], ◌∷◌, length, is_ok, Some, None, Option, Ok, Err, Result, MatchResult, Decides, sym, refl, ap, ◌∙◌, rules, arith}
+use Rattle.std.proofs.lemmas.Bool.{lt-ltb, ltb-true, le-leb, leb-true, and_parts, true≢false}
 use Rattle.std.proofs.lemmas.Bool.Decides.{nat_tests, Decides-like, Decides-and, Decides-ltb}
-use Rattle.std.proofs.lemmas.List.{drop_more, drop_all}
+use Rattle.std.proofs.lemmas.Int.Digits.{digits_value-lt}
 use Rattle.std.proofs.lemmas.Str.Ascii.{IsAscii-nil, IsAscii-cons}
 use Rattle.std.proofs.lemmas.Str.Parse.{IsNumeralModel, numerals_by_fold}
 use Rattle.std.specs.Char.{digit_value, is_digit}
@@ -10,7 +10,11 @@ use Rattle.std.specs.List.{list_all}
 use Rattle.std.specs.Option.{SomeIff}
 use Rattle.std.specs.Str.{IsAscii}
 use Rattle.std.specs.Str.Parse.{AllDigits, IsNumeral, digits_value}
-use Rattle.texts.specs.Numerals.{all_digits, value, number_of, hex_digit, hex_of, letter_of}
+use Rattle.texts.specs.Numerals.{all_digits, value, number_of, hex_of, one_letter}
+use Rattle.utf8.specs.Reading.{first_letter}
+use Rattle.utf8.proofs.Letters.{none_read}
+use Rattle.utf8.proofs.Numbers.{three_says, two_says}
+use native.Mathlib.Nat.{pow-le-pow_right}
 
 -- two that are `Some v` just where P holds are one
 pub same_some : (r s : Option ℕ) (P : Type 0) (v : ℕ) → SomeIff r P v → SomeIff s P v → r ≡ s
@@ -58,32 +62,48 @@ number_reads w = chosen _ _ (number_tells w) _ (value 0 w) (λ p. sym (own.same 
 pub decimal_read : (w : List ℕ) (r : Option ℕ) → SomeIff r (IsNumeral 10 w × (digits_value 10 w < 65536)) (digits_value 10 w) → r ≡ number_of w
 decimal_read w r h = same_some r (number_of w) _ _ h (number_reads w)
 
--- four hexadecimal digits
-hex_digit_is : (x : ℕ) → hex_digit x ≡ cond (ltb (digit_value x) 16) (Some (digit_value x)) None
-hex_digit_is x = grind (arith, nat_tests)
+-- hexadecimal digits, four to six
+digits_all : (base : ℕ) (w : List ℕ) → list_all (λ x. is_digit x base) w ≡ true → AllDigits base w
+digits_all base [] h = tt
+digits_all base (x ∷ w) h = let k = and_parts (is_digit x base) (list_all (λ y. is_digit y base) w) h in (ltb-true (digit_value x) base k.0, digits_all base w k.1)
 
-hex_of_all : (p q s t : Bool) (a b c d : ℕ) → hex_of (cond p (Some a) None) (cond q (Some b) None) (cond s (Some c) None) (cond t (Some d) None) ≡ cond (p && (q && (s && t))) (Some (4096 * a + (256 * b + (16 * c + d)))) None
-hex_of_all false q s t a b c d = refl
-hex_of_all true false s t a b c d = refl
-hex_of_all true true false t a b c d = refl
-hex_of_all true true true false a b c d = refl
-hex_of_all true true true true a b c d = refl
+abbrev IsHex : List ℕ → Type 0
+IsHex d = ((4 ≤ length d) × (length d ≤ 6)) × AllDigits 16 d
 
-hex_tells : (a b c d : ℕ) → Decides (ltb (digit_value a) 16 && (ltb (digit_value b) 16 && (ltb (digit_value c) 16 && ltb (digit_value d) 16))) (IsNumeral 16 (a ∷ (b ∷ (c ∷ (d ∷ [])))) × (digits_value 16 (a ∷ (b ∷ (c ∷ (d ∷ [])))) < 65536))
-hex_tells a b c d =
-    Decides-like _ (λ q. ((omega arith, (q.0, (q.1.0, (q.1.1.0, (q.1.1.1, tt))))), omega arith)) (λ p. (p.0.1.0, (p.0.1.1.0, (p.0.1.1.1.0, p.0.1.1.1.1.0))))
-    (Decides-and _ _ (Decides-ltb (digit_value a) 16) (Decides-and _ _ (Decides-ltb (digit_value b) 16) (Decides-and _ _ (Decides-ltb (digit_value c) 16) (Decides-ltb (digit_value d) 16))))
+hex_tells : (d : List ℕ) → Decides ((leb 4 (length d) && leb (length d) 6) && list_all (λ x. is_digit x 16) d) (IsHex d)
+hex_tells d = Decides-and _ _ (Decides-and _ _ (leb-true 4 (length d), le-leb 4 (length d)) (leb-true (length d) 6, le-leb (length d) 6)) (digits_all 16 d, digits_pass 16 d)
 
-pub hex_reads : (a b c d : ℕ) → SomeIff (hex_of (hex_digit a) (hex_digit b) (hex_digit c) (hex_digit d)) (IsNumeral 16 (a ∷ (b ∷ (c ∷ (d ∷ [])))) × (digits_value 16 (a ∷ (b ∷ (c ∷ (d ∷ [])))) < 65536)) (digits_value 16 (a ∷ (b ∷ (c ∷ (d ∷ [])))))
-hex_reads a b c d =
-    rw (hex_digit_is a, hex_digit_is b, hex_digit_is c, hex_digit_is d, hex_of_all)
-    (chosen _ _ (hex_tells a b c d) _ _ (λ p. omega arith))
+pub hex_reads : (d : List ℕ) → SomeIff (hex_of d) (IsHex d) (digits_value 16 d)
+hex_reads d = chosen _ _ (hex_tells d) _ _ (λ p. refl)
 
--- a letter by its number: d is what stands behind the sign
-pub by_number : (w d : List ℕ) → d ≡ drop 2 w → length w ≡ 6 → get_or w 0 0 ≡ 85 → get_or w 1 0 ≡ 43 → (r : Option ℕ) → SomeIff r (IsNumeral 16 d × (digits_value 16 d < 65536)) (digits_value 16 d) → r ≡ letter_of w
-unfolding letter_of
-by_number w d b e u p r h =
-    let l = b ∙ (drop_more w 2 0 (omega arith) ∙ ap (λ k. get_or w 2 0 ∷ k) (drop_more w 3 0 (omega arith)
-    ∙ ap (λ k. get_or w 3 0 ∷ k) (drop_more w 4 0 (omega arith) ∙ ap (λ k. get_or w 4 0 ∷ k) (drop_more w 5 0 (omega arith) ∙ ap (λ k. get_or w 5 0 ∷ k) (drop_all 6 w (omega arith)))))) in
-    rw (ne_eqb (length w) 1 (omega arith), eq-eqb (length w) 6 e, eq-eqb (get_or w 0 0) 85 u, eq-eqb (get_or w 1 0) 43 p)
-    (same_some r _ _ _ (subst (λ (k : List ℕ). SomeIff r (IsNumeral 16 k × (digits_value 16 k < 65536)) (digits_value 16 k)) l h) (hex_reads (get_or w 2 0) (get_or w 3 0) (get_or w 4 0) (get_or w 5 0)))
+-- a choice of the same
+some_like : (r : Option ℕ) (P Q : Type 0) (v : ℕ) → (P → Q) → (Q → P) → SomeIff r P v → SomeIff r Q v
+some_like None P Q v f g h = λ q. h (g q)
+some_like (Some x) P Q v f g h = (f h.0, h.1)
+
+-- their number is small
+hex_small : (d : List ℕ) → AllDigits 16 d → length d ≤ 6 → digits_value 16 d < 2 ^ 32
+hex_small d h l = omega (arith, digits_value-lt 16 d h, pow-le-pow_right {n = 16} (omega arith) l)
+
+pub hex_read : (d : List ℕ) (r : Option ℕ) → 4 ≤ length d → length d ≤ 6 → SomeIff r (IsNumeral 16 d × (digits_value 16 d < 2 ^ 32)) (digits_value 16 d) → r ≡ hex_of d
+hex_read d r l h s =
+    same_some r (hex_of d) (IsHex d) _ (some_like r _ _ _ (λ p. ((l, h), p.0.1)) (λ q. ((omega arith, q.1), hex_small d q.1 h)) s) (hex_reads d)
+
+pub hex_none : (d : List ℕ) → (length d < 4) ⊎ (6 < length d) → hex_of d ≡ None
+hex_none d h = go (hex_of d) (hex_reads d)
+  where
+    go : (r : Option ℕ) → SomeIff r (IsHex d) (digits_value 16 d) → r ≡ None
+    go None s = refl
+    go (Some x) s = elim h [ inl l ↦ absurd (omega arith) | inr l ↦ absurd (omega arith) ]
+
+-- the letter that all bytes are
+pub one_none : (w : List ℕ) → first_letter w ≡ None → one_letter w ≡ None
+one_none w e = rw (none_read w e)
+
+pub one_read : (w : List ℕ) (a k : ℕ) → first_letter w ≡ Some (a, k) → one_letter w ≡ cond (eqb k (length w) && leb a 65535) (Some a) None
+unfolding first_letter
+one_read [] a k e = grind arith
+one_read (x ∷ []) a k e = grind (arith, nat_tests)
+one_read (x ∷ (b ∷ [])) a k e = grind (arith, nat_tests, two_says)
+one_read (x ∷ (b ∷ (c ∷ []))) a k e = grind (arith, nat_tests, two_says, three_says)
+one_read (x ∷ (b ∷ (c ∷ (d ∷ n)))) a k e = grind (arith, nat_tests)

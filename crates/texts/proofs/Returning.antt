@@ -1,12 +1,11 @@
 -- What is written as a line is read again.
-use Rattle.std.proofs.Common.{◌≡◌, ℕ, zero, suc, ◌-◌, ◌/◌, ◌%◌, ◌^◌, ◌<◌, ◌≤◌, inl, inr, Bool, true, false, cond, ◌&&◌, leb, List, [], ◌∷◌, ◌++◌, length, get_or, codes, decimal, sym, refl, ap, ◌∙◌, rules, arith}
-use Rattle.std.proofs.lemmas.Bool.{ne_eqb, and_parts, leb-true}
+use Rattle.std.proofs.Common.{◌≡◌, ℕ, zero, suc, ◌-◌, ◌^◌, ◌<◌, ◌≤◌, inl, inr, Bool, true, false, cond, ◌&&◌, leb, ltb, None, List, [], ◌∷◌, ◌++◌, length, get_or, codes, decimal, sym, refl, ap, ◌∙◌, rules, arith}
+use Rattle.std.proofs.lemmas.Bool.{ne_eqb, and_parts, leb-true, cond-true, lt-ltb}
 use Rattle.std.proofs.lemmas.Bool.Decides.{nat_tests}
 use Rattle.std.proofs.lemmas.Fmt.{decimal_is_IsNumeral}
 use Rattle.std.proofs.lemmas.List.{append-nil, get_or-append_right, length-append}
 use Rattle.std.specs.Char.{digit_value}
-use Rattle.std.specs.Fmt.{digit_glyph}
-use Rattle.std.specs.Str.Parse.{AllDigits, digits_value}
+use Rattle.std.specs.Str.Parse.{AllDigits}
 use Rattle.table.specs.declared.piece.Weights.{Weights}
 use Rattle.texts.specs.declared.line.Entry.{Entry}
 use Rattle.texts.specs.declared.line.Entry.TheVariants.{Letter, Pair}
@@ -14,32 +13,21 @@ use Rattle.texts.specs.Forms.{AreWeights, HasForm, IsLetter, IsWeight}
 use Rattle.texts.specs.Laws.{AreShort, MayStand, ReadsBack}
 use Rattle.texts.specs.Lines.{Saying, enters, finds, meaning_of, names, says, wants_key}
 use Rattle.texts.specs.Parts.{without_return}
-use Rattle.texts.specs.Written.{letter_text, saying_text, weights_text}
+use Rattle.texts.specs.Written.{hex_text, letter_text, saying_text, weights_text}
 use Rattle.texts.proofs.Cutting.{IsFree, free_append, free_places, parts_free}
-use Rattle.texts.proofs.Forming.{digits_free, form_read}
-
--- four large hexadecimal digits give a number of 16 bits again
-glyph_value : (d : ℕ) → d < 16 → digit_value (digit_glyph true d) ≡ d
-glyph_value d l = grind (arith, nat_tests)
-
-abbrev four : ℕ → List ℕ
-four a = digit_glyph true (a / 4096) ∷ (digit_glyph true (a / 256 % 16) ∷ (digit_glyph true (a / 16 % 16) ∷ (digit_glyph true (a % 16) ∷ [])))
-
-letter_by_number : (a : ℕ) → a < 2 ^ 16 → AllDigits 16 (four a) × (digits_value 16 (four a) ≡ a)
-letter_by_number a l =
-    let p = glyph_value (a / 4096) (omega arith) in
-    let q = glyph_value (a / 256 % 16) (omega arith) in
-    let r = glyph_value (a / 16 % 16) (omega arith) in
-    let s = glyph_value (a % 16) (omega arith) in
-    ((omega arith, (omega arith, (omega arith, (omega arith, tt)))), omega arith)
+use Rattle.texts.proofs.Forming.{form_read}
+use Rattle.texts.proofs.Writing.{hex_again}
+use Rattle.utf8.specs.Reading.{later, unread}
+use Rattle.utf8.proofs.Letters.{first_one, unread_none, unread_read}
+use Rattle.utf8.proofs.Numbers.{in_one, letter_holds}
 
 -- a letter and weights that are written have their forms
-letter_written : (a : ℕ) → a < 2 ^ 16 → IsLetter (letter_text a) a
-letter_written a l = go (leb 33 a && leb a 126) (λ t. leb-true 33 a (and_parts (leb 33 a) (leb a 126) t).0)
+letter_written : (a : ℕ) → a < 2 ^ 24 → IsLetter (letter_text a) a
+letter_written a l = go (leb 33 a && leb a 126) (λ t. let h = and_parts (leb 33 a) (leb a 126) t in (leb-true 33 a h.0, leb-true a 126 h.1))
   where
-    go : (t : Bool) → (t ≡ true → 33 ≤ a) → IsLetter (cond t (a ∷ []) (codes "U+" ++ four a)) a
-    go true h = let k = h refl in inl (refl, omega arith)
-    go false h = let k = letter_by_number a l in inr (four a, refl, refl, k.0, k.1)
+    go : (t : Bool) → (t ≡ true → (33 ≤ a) × (a ≤ 126)) → IsLetter (cond t (a ∷ []) (codes "U+" ++ hex_text a)) a
+    go true h = let k = h refl in inl (sym (in_one a (omega arith)), letter_holds a (omega arith) (λ e. omega arith), omega arith)
+    go false h = let k = hex_again a l in inr (hex_text a, refl, k.0, k.1, k.2, k.3)
 
 weight_written : (n : ℕ) → n < 2 ^ 16 → IsWeight (decimal n) n
 weight_written n l = let h = decimal_is_IsNumeral n (omega arith) in (h.0, h.1, l)
@@ -49,46 +37,74 @@ weights_written w l = (decimal w.primary, decimal w.secondary, decimal w.tertiar
 
 -- a command that is written has its form
 form_written : (s : Saying) → MayStand s → HasForm s (saying_text s)
-form_written (enters (Letter a w)) h = (letter_text a, weights_text w, letter_written a (omega arith), h.0, weights_written w h.1, refl)
+form_written (enters (Letter e)) h = (letter_text e.letter, weights_text e.weights, letter_written e.letter h.0, weights_written e.weights h.1, refl)
 form_written (enters (Pair p)) h = (letter_text p.first, letter_text p.second, weights_text p.weights, letter_written p.first h.0, letter_written p.second h.1, weights_written p.weights h.2, refl)
 form_written (finds n) h = inr refl
 form_written (wants_key n) h = inr refl
 form_written (names n) h = inl (inr refl)
 
--- a mark below the space stands in no letter, no number and no entry that is written
-module _ (m : ℕ) (low : m < 32) where
-  no_digit : digit_value m ≡ 36
-  no_digit = grind (arith, nat_tests)
+-- letters, numbers and entries are written in bytes that can be seen, and the space
+abbrev IsSeen : List ℕ → Type 0
+IsSeen [] = Unit {0}
+IsSeen (x ∷ xs) = (32 ≤ x) × (x < 128) × IsSeen xs
 
-  letter_low : (a : ℕ) → a < 2 ^ 16 → IsFree m (letter_text a)
-  letter_low a l = go (leb 33 a && leb a 126) (λ t. leb-true 33 a (and_parts (leb 33 a) (leb a 126) t).0)
-    where
-      go : (t : Bool) → (t ≡ true → 33 ≤ a) → IsFree m (cond t (a ∷ []) (codes "U+" ++ four a))
-      go true h = let k = h refl in (λ e. omega arith, tt)
-      go false h = (λ e. omega arith, (λ e. omega arith, digits_free m 16 no_digit (omega arith) (four a) (letter_by_number a l).0))
+seen_append : (xs ys : List ℕ) → IsSeen xs → IsSeen ys → IsSeen (xs ++ ys)
+seen_append [] ys f g = g
+seen_append (x ∷ xs) ys f g = (f.0, f.1, seen_append xs ys f.2 g)
 
-  decimal_low : (n : ℕ) → n < 2 ^ 16 → IsFree m (decimal n)
-  decimal_low n l = digits_free m 10 no_digit (omega arith) (decimal n) (decimal_is_IsNumeral n (omega arith)).0.1
+digit_seen : (x : ℕ) → digit_value x < 36 → (32 ≤ x) × (x < 128)
+digit_seen x h = grind (arith, nat_tests)
 
-  -- what is free of it stays so behind a space
-  behind_space : (xs ys : List ℕ) → IsFree m xs → IsFree m ys → IsFree m (xs ++ (codes " " ++ ys))
-  behind_space xs ys f g = free_append m xs (codes " " ++ ys) f (λ e. omega arith, g)
+digits_seen : (base : ℕ) → base ≤ 36 → (w : List ℕ) → AllDigits base w → IsSeen w
+digits_seen base l [] h = tt
+digits_seen base l (x ∷ w) h = let k = digit_seen x (omega arith) in (k.0, k.1, digits_seen base l w h.1)
 
-  weights_low : (w : Weights) → AreShort w → IsFree m (weights_text w)
-  weights_low w l = behind_space (decimal w.primary) _ (decimal_low w.primary l.0) (behind_space (decimal w.secondary) _ (decimal_low w.secondary l.1) (decimal_low w.tertiary l.2))
+letter_seen : (a : ℕ) → a < 2 ^ 24 → IsSeen (letter_text a)
+letter_seen a l = go (leb 33 a && leb a 126) (λ t. let h = and_parts (leb 33 a) (leb a 126) t in (leb-true 33 a h.0, leb-true a 126 h.1))
+  where
+    go : (t : Bool) → (t ≡ true → (33 ≤ a) × (a ≤ 126)) → IsSeen (cond t (a ∷ []) (codes "U+" ++ hex_text a))
+    go true h = let k = h refl in (omega arith, omega arith, tt)
+    go false h = (omega arith, omega arith, (omega arith, omega arith, digits_seen 16 (omega arith) (hex_text a) (hex_again a l).2))
 
-  entry_low : (e : Entry) → MayStand (enters e) → IsFree m (saying_text (enters e))
-  entry_low (Letter a w) h = free_append m (codes "letter ") _ (search (rules, arith)) (behind_space (letter_text a) _ (letter_low a (omega arith)) (weights_low w h.1))
-  entry_low (Pair p) h =
-      free_append m (codes "pair ") _ (search (rules, arith))
-      (behind_space (letter_text p.first) _ (letter_low p.first h.0) (behind_space (letter_text p.second) _ (letter_low p.second h.1) (weights_low p.weights h.2)))
+decimal_seen : (n : ℕ) → n < 2 ^ 16 → IsSeen (decimal n)
+decimal_seen n l = digits_seen 10 (omega arith) (decimal n) (decimal_is_IsNumeral n (omega arith)).0.1
+
+behind_space : (xs ys : List ℕ) → IsSeen xs → IsSeen ys → IsSeen (xs ++ (codes " " ++ ys))
+behind_space xs ys f g = seen_append xs (codes " " ++ ys) f (omega arith, omega arith, g)
+
+weights_seen : (w : Weights) → AreShort w → IsSeen (weights_text w)
+weights_seen w l = behind_space (decimal w.primary) _ (decimal_seen w.primary l.0) (behind_space (decimal w.secondary) _ (decimal_seen w.secondary l.1) (decimal_seen w.tertiary l.2))
+
+entry_seen : (e : Entry) → MayStand (enters e) → IsSeen (saying_text (enters e))
+entry_seen (Letter e) h = seen_append (codes "letter ") _ (search (rules, arith)) (behind_space (letter_text e.letter) _ (letter_seen e.letter h.0) (weights_seen e.weights h.1))
+entry_seen (Pair p) h =
+    seen_append (codes "pair ") _ (search (rules, arith))
+    (behind_space (letter_text p.first) _ (letter_seen p.first h.0) (behind_space (letter_text p.second) _ (letter_seen p.second h.1) (weights_seen p.weights h.2)))
+
+-- no mark below the space stands in them
+seen_free : (m : ℕ) → m < 32 → (xs : List ℕ) → IsSeen xs → IsFree m xs
+seen_free m l [] h = tt
+seen_free m l (x ∷ xs) h = (λ e. omega arith, seen_free m l xs h.2)
+
+-- and they are letters, with letters behind them too
+seen_read : (xs ys : List ℕ) → IsSeen xs → unread ys ≡ None → unread (xs ++ ys) ≡ None
+seen_read [] ys h u = u
+seen_read (x ∷ xs) ys h u =
+    unread_read (x ∷ (xs ++ ys)) x 1 (first_one x (xs ++ ys) h.1)
+    ∙ (cond-true (ltb x 65536) _ _ (lt-ltb x 65536 (omega arith)) ∙ ap (later 1) (seen_read xs ys h.2 u))
+
+all_read : (s : Saying) → MayStand s → unread (saying_text s) ≡ None
+all_read (enters e) h = ap unread (sym (append-nil (saying_text (enters e)))) ∙ seen_read (saying_text (enters e)) [] (entry_seen e h) unread_none
+all_read (finds n) h = seen_read (codes "find ") n (search (rules, arith)) h.0
+all_read (wants_key n) h = seen_read (codes "key ") n (search (rules, arith)) h.0
+all_read (names n) h = seen_read (codes "name ") n (search (rules, arith)) h.0
 
 -- no line that is written has a line feed
 one_line : (s : Saying) → MayStand s → IsFree 10 (saying_text s)
-one_line (enters e) h = entry_low 10 (omega arith) e h
-one_line (finds n) h = free_append 10 (codes "find ") n (search (rules, arith)) (free_places 10 n h.0)
-one_line (wants_key n) h = free_append 10 (codes "key ") n (search (rules, arith)) (free_places 10 n h.0)
-one_line (names n) h = free_append 10 (codes "name ") n (search (rules, arith)) (free_places 10 n h.0)
+one_line (enters e) h = seen_free 10 (omega arith) (saying_text (enters e)) (entry_seen e h)
+one_line (finds n) h = free_append 10 (codes "find ") n (search (rules, arith)) (free_places 10 n h.1)
+one_line (wants_key n) h = free_append 10 (codes "key ") n (search (rules, arith)) (free_places 10 n h.1)
+one_line (names n) h = free_append 10 (codes "name ") n (search (rules, arith)) (free_places 10 n h.1)
 
 -- and none has a carriage return at its end
 never_reads : (xs : List ℕ) (k : ℕ) → IsFree 13 xs → get_or xs k 0 ≡ 13 → ⊥
@@ -105,17 +121,17 @@ end_behind p (x ∷ n) f h =
     λ q. h (sym (k ∙ ap (λ i. get_or (x ∷ n) i 0) e) ∙ q)
 
 no_return : (s : Saying) → MayStand s → get_or (saying_text s) (length (saying_text s) - 1) 0 ≡ 13 → ⊥
-no_return (enters e) h = never_reads (saying_text (enters e)) (length (saying_text (enters e)) - 1) (entry_low 13 (omega arith) e h)
-no_return (finds n) h = end_behind (codes "find ") n (search (rules, arith)) h.1
-no_return (wants_key n) h = end_behind (codes "key ") n (search (rules, arith)) h.1
-no_return (names n) h = end_behind (codes "name ") n (search (rules, arith)) h.1
+no_return (enters e) h = never_reads (saying_text (enters e)) (length (saying_text (enters e)) - 1) (seen_free 13 (omega arith) (saying_text (enters e)) (entry_seen e h))
+no_return (finds n) h = end_behind (codes "find ") n (search (rules, arith)) h.2
+no_return (wants_key n) h = end_behind (codes "key ") n (search (rules, arith)) h.2
+no_return (names n) h = end_behind (codes "name ") n (search (rules, arith)) h.2
 
 kept : (l : List ℕ) → (get_or l (length l - 1) 0 ≡ 13 → ⊥) → without_return l ≡ l
 kept l h = rw (ne_eqb (get_or l (length l - 1) 0) 13 h) refl
 
 -- so it is read again
 pub read_again : (s : Saying) → MayStand s → (l : List ℕ) → l ≡ saying_text s → meaning_of (without_return l) ≡ says s
-read_again s h l e = ap (λ t. meaning_of (without_return t)) e ∙ (ap meaning_of (kept (saying_text s) (no_return s h)) ∙ form_read s (saying_text s) (form_written s h))
+read_again s h l e = ap (λ t. meaning_of (without_return t)) e ∙ (ap meaning_of (kept (saying_text s) (no_return s h)) ∙ form_read s (saying_text s) (all_read s h) (form_written s h))
 
 pub reads_back : ReadsBack
 reads_back s h = (parts_free 10 (saying_text s) (one_line s h), read_again s h (saying_text s) refl)

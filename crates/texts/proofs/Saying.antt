@@ -1,16 +1,21 @@
 -- What a line says.
-use Rattle.std.proofs.Common.{◌≡◌, ℕ, ◌<◌, List, [], ◌∷◌, length, get_or, refl, arith}
-use Rattle.texts.specs.Lines.{blank, command_of, meaning_of, said}
+use Rattle.std.proofs.Common.{◌≡◌, ℕ, ◌<◌, List, [], ◌∷◌, length, get_or, Some, None, arith}
+use Rattle.texts.specs.Lines.{blank, command_of, damaged, meaning_of, said}
+use Rattle.utf8.specs.Reading.{unread}
 
-pub blank_line : (xs : List ℕ) → length xs ≡ 0 → meaning_of xs ≡ blank
+pub damaged_line : (xs : List ℕ) (k : ℕ) → unread xs ≡ Some k → meaning_of xs ≡ damaged k
 unfolding meaning_of
-blank_line [] e = refl
-blank_line (x ∷ xs) e = absurd (omega arith)
+damaged_line xs k u = rw u
 
-pub some_line : (xs : List ℕ) → 0 < length xs → meaning_of xs ≡ said (command_of xs)
+pub blank_line : (xs : List ℕ) → unread xs ≡ None → length xs ≡ 0 → meaning_of xs ≡ blank
 unfolding meaning_of
-some_line [] l = absurd (omega arith)
-some_line (x ∷ xs) l = refl
+blank_line [] u e = rw u
+blank_line (x ∷ xs) u e = absurd (omega arith)
+
+pub some_line : (xs : List ℕ) → unread xs ≡ None → 0 < length xs → meaning_of xs ≡ said (command_of xs)
+unfolding meaning_of
+some_line [] u l = absurd (omega arith)
+some_line (x ∷ xs) u l = rw u
 
 -- six bytes one by one
 pub six : (w : List ℕ) (a b c d e f : ℕ) → length w ≡ 6 → (get_or w 0 0 ≡ a) × (get_or w 1 0 ≡ b) × (get_or w 2 0 ≡ c) →

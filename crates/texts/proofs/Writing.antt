@@ -1,10 +1,12 @@
--- Numbers written one after the other, and in four hexadecimal digits.
-use Rattle.std.proofs.Common.{◌≡◌, ℕ, suc, ◌+◌, ◌-◌, ◌^◌, ◌<◌, ◌≤◌, ◌/◌, ◌%◌, true, false, ◌&&◌, leb, List, [], ◌∷◌, ◌++◌, length, get_or, take, codes, decimal, sym, refl, ap, ap₂, ◌∙◌, ⊎_elim, arith}
-use Rattle.std.proofs.lemmas.List.{append_assoc, take_more}
-use Rattle.std.proofs.lemmas.Bool.{eq-eqb, ne_eqb, cases_lt}
-use Rattle.std.proofs.lemmas.Fmt.{hex_one_digit, hex_two_digits}
+-- Numbers written one after the other, and letters in hexadecimal digits.
+use Rattle.std.proofs.Common.{◌≡◌, ℕ, zero, suc, ◌+◌, ◌-◌, ◌^◌, ◌<◌, ◌≤◌, ◌/◌, ◌%◌, inl, inr, true, false, ◌&&◌, leb, List, [], ◌∷◌, ◌++◌, length, get_or, take, codes, decimal, replicate, sym, refl, ap, ◌∙◌, arith}
+use Rattle.std.proofs.lemmas.List.{append-nil, append_assoc, length-append, length-replicate, take_more}
+use Rattle.std.proofs.lemmas.Bool.{cases_eq, eq-eqb, ne_eqb}
+use Rattle.std.proofs.lemmas.Fmt.{digits_is_IsNumeral}
 use Rattle.std.specs.Fmt.{digits, digits_onto, digit_glyph, padded_integral, format_spec, char_count}
-use Rattle.texts.specs.Written.{letter_text, numbers_text}
+use Rattle.std.specs.Str.Parse.{AllDigits, digits_value}
+use Rattle.texts.specs.Written.{hex_text, letter_text, numbers_text}
+use native.Mathlib.Nat.{pow-succ'}
 
 one_behind : (x : ℕ) (xs : List ℕ) (y : ℕ) → numbers_text (x ∷ xs) ++ (codes " " ++ decimal y) ≡ numbers_text (x ∷ (xs ++ y ∷ []))
 unfolding numbers_text
@@ -18,52 +20,45 @@ one_behind x (z ∷ xs) y =
 pub one_more : (x : ℕ) (xs : List ℕ) (i : ℕ) → i < length xs → numbers_text (x ∷ take i xs) ++ (codes " " ++ decimal (get_or xs i 0)) ≡ numbers_text (x ∷ take (i + 1) xs)
 one_more x xs i h = one_behind x (take i xs) (get_or xs i 0) ∙ ap (λ l. numbers_text (x ∷ l)) (sym (take_more xs i 0 h))
 
--- the last digit, and those in front of it
-front : (k n : ℕ) (acc : List ℕ) → 16 ≤ n → digits_onto (suc k) 16 true n acc ≡ digits_onto k 16 true (n / 16) (digit_glyph true (n % 16) ∷ acc)
-front k n acc h = rw (ne_eqb (n / 16) 0 (omega arith))
+-- what `{:04X}` writes, of any number
+padded_digits : (ds : List ℕ) → padded_integral (format_spec 32 0 4 4 (2 ^ 64 - 1)) false [] ds ≡ replicate (4 - length ds) 48 ++ ds
+unfolding padded_integral char_count
+padded_digits ds = let e : 4 - length ds - 0 - 0 ≡ 4 - length ds = omega arith in rw (e, append-nil ds)
 
-alone : (k n : ℕ) (acc : List ℕ) → n < 16 → digits_onto (suc k) 16 true n acc ≡ digit_glyph true n ∷ acc
-alone k n acc h = let e : n % 16 ≡ n = omega arith in rw (eq-eqb (n / 16) 0 (omega arith), e)
+-- a letter that can't be seen
+pub by_number : (n : ℕ) → (leb 33 n && leb n 126) ≡ false → codes "U+" ++ padded_integral (format_spec 32 0 4 4 (2 ^ 64 - 1)) false [] (digits 16 true n) ≡ letter_text n
+by_number n t = rw (padded_digits (digits 16 true n), t)
 
-module _ (n : ℕ) where
-  last_two : List ℕ
-  last_two = digit_glyph true (n / 16 % 16) ∷ (digit_glyph true (n % 16) ∷ [])
+-- no more digits than the number asks for
+digits_most : (k j n : ℕ) (acc : List ℕ) → n < 16 ^ j → 0 < j → length (digits_onto k 16 true n acc) ≤ j + length acc
+digits_most zero j n acc h l = omega arith
+digits_most (suc k) zero n acc h l = absurd (omega arith)
+digits_most (suc k) (suc j) n acc h l = elim (cases_eq (n / 16) 0) [
+  | inl e ↦ rw (eq-eqb (n / 16) 0 e) (omega arith)
+  | inr e ↦ rw (ne_eqb (n / 16) 0 e) (
+      let p = pow-succ' 16 j in
+      let s : n / 16 < 16 ^ j = omega arith in
+      elim (cases_eq j 0) [
+        | inl z ↦ absurd (let o = ap (λ i. 16 ^ i) z in omega arith)
+        | inr z ↦ let m = digits_most k j (n / 16) (digit_glyph true (n % 16) ∷ acc) s (omega arith) in omega arith
+      ])
+]
 
-  three_digits : 256 ≤ n → n < 4096 → digits 16 true n ≡ digit_glyph true (n / 256) ∷ last_two
-  unfolding digits last_two
-  three_digits l h =
-      let e : n / 16 / 16 ≡ n / 256 = omega arith in
-      front 63 n [] (omega arith) ∙ front 62 (n / 16) (digit_glyph true (n % 16) ∷ []) (omega arith)
-      ∙ alone 61 (n / 16 / 16) last_two (omega arith) ∙ ap (λ d. digit_glyph true d ∷ last_two) e
+digits_few : (n : ℕ) → n < 2 ^ 24 → length (digits 16 true n) ≤ 6
+unfolding digits
+digits_few n h = let m = digits_most 64 6 n [] (omega arith) (omega arith) in omega arith
 
-  four_digits : 4096 ≤ n → n < 65536 → digits 16 true n ≡ digit_glyph true (n / 4096) ∷ (digit_glyph true (n / 256 % 16) ∷ last_two)
-  unfolding digits last_two
-  four_digits l h =
-      let e : n / 16 / 16 ≡ n / 256 = omega arith in
-      let f : n / 16 / 16 / 16 ≡ n / 4096 = omega arith in
-      front 63 n [] (omega arith) ∙ front 62 (n / 16) (digit_glyph true (n % 16) ∷ []) (omega arith)
-      ∙ front 61 (n / 16 / 16) last_two (omega arith) ∙ alone 60 (n / 16 / 16 / 16) (digit_glyph true (n / 16 / 16 % 16) ∷ last_two) (omega arith)
-      ∙ ap₂ (λ d k. digit_glyph true d ∷ (digit_glyph true (k % 16) ∷ last_two)) f e
+-- zeros in front of digits change no number
+zeros_in_front : (k : ℕ) (ds : List ℕ) → AllDigits 16 ds → AllDigits 16 (replicate k 48 ++ ds) × (digits_value 16 (replicate k 48 ++ ds) ≡ digits_value 16 ds)
+zeros_in_front zero ds h = (h, refl)
+zeros_in_front (suc k) ds h = let r = zeros_in_front k ds h in ((omega arith, r.0), r.1)
 
-  -- what `{:04X}` writes
-  padded_digits : n < 65536 → padded_integral (format_spec 32 0 4 4 (2 ^ 64 - 1)) false [] (digits 16 true n) ≡ digit_glyph true (n / 4096) ∷ (digit_glyph true (n / 256 % 16) ∷ last_two)
-  unfolding padded_integral char_count last_two
-  padded_digits h = ⊎_elim
-      (λ small.
-      let a : n / 4096 ≡ 0 = omega arith in
-      let b : n / 256 % 16 ≡ 0 = omega arith in
-      ⊎_elim
-      (λ one. let c : n / 16 % 16 ≡ 0 = omega arith in let d : n % 16 ≡ n = omega arith in rw (hex_one_digit true n one, a, b, c, d))
-      (λ two. let c : n / 16 % 16 ≡ n / 16 = omega arith in rw (hex_two_digits true n two small, a, b, c))
-      (cases_lt n 16))
-      (λ large.
-      ⊎_elim
-      (λ three. let a : n / 4096 ≡ 0 = omega arith in let b : n / 256 % 16 ≡ n / 256 = omega arith in rw (three_digits large three, a, b))
-      (λ four. rw (four_digits four h))
-      (cases_lt n 4096))
-      (cases_lt n 256)
-
-  -- a letter that can't be seen
-  pub by_number : n < 65536 → (leb 33 n && leb n 126) ≡ false → codes "U+" ++ padded_integral (format_spec 32 0 4 4 (2 ^ 64 - 1)) false [] (digits 16 true n) ≡ letter_text n
-  unfolding last_two
-  by_number l t = rw (padded_digits l, t)
+-- four to six digits that are the number again
+pub hex_again : (n : ℕ) → n < 2 ^ 24 → (4 ≤ length (hex_text n)) × (length (hex_text n) ≤ 6) × AllDigits 16 (hex_text n) × (digits_value 16 (hex_text n) ≡ n)
+hex_again n h =
+    let ds = digits 16 true n in
+    let d = digits_is_IsNumeral 16 true (omega arith) (omega arith) n (omega arith) in
+    let m = digits_few n h in
+    let l : length (hex_text n) ≡ 4 - length ds + length ds = length-append (replicate (4 - length ds) 48) ds ∙ ap (λ k. k + length ds) (length-replicate (4 - length ds) 48) in
+    let z = zeros_in_front (4 - length ds) ds d.0.1 in
+    (omega arith, omega arith, z.0, z.1 ∙ d.1)

@@ -1,13 +1,25 @@
 -- The forms that lines have, as anybody would write them down.
-use Rattle.std.specs.Prelude.{◌≡◌, ℕ, ◌^◌, ◌<◌, ◌⊎◌, List, [], ◌∷◌, ◌++◌, codes, length}
+use Rattle.std.specs.Prelude.{◌≡◌, ◌≢◌, ℕ, ◌^◌, ◌<◌, ◌≤◌, ◌⊎◌, true, List, [], ◌++◌, codes, length, take, drop}
 use Rattle.std.specs.Str.Parse.{AllDigits, IsNumeral, digits_value}
 use Rattle.table.specs.declared.piece.Weights.{Weights}
 use Rattle.texts.specs.Lines.{Saying, enters, finds, names, wants_key}
 use Rattle.texts.specs.declared.line.Entry.TheVariants.{Letter, Pair}
+use Rattle.utf8.specs.Laws.{all_letters}
+use Rattle.utf8.specs.Letters.{bytes_of, is_letter, written}
 
--- a letter is written as itself, if it is no space; or as U+ and four hexadecimal digits of its number
+-- bytes that are letters in UTF-8, one behind the other
+abbrev pub AreLetters : List ℕ → Type 0
+AreLetters n = (ls : List ℕ) × (all_letters ls ≡ true) × (written ls ≡ n)
+
+-- the first byte at which no letter can be read: all bytes before it are letters, and none begins with it
+abbrev pub IsDamage : (line : List ℕ) → (place : ℕ) → Type 0
+IsDamage l k = (k < length l) × AreLetters (take k l) × ((a : ℕ) (rest : List ℕ) → is_letter a ≡ true → drop k l ≢ bytes_of a ++ rest)
+
+-- a letter is written as itself, in UTF-8, if it is no space; or as U+ and four to six hexadecimal digits of its number
 abbrev pub IsLetter : List ℕ → (letter : ℕ) → Type 0
-IsLetter x a = ((x ≡ a ∷ []) × (a ≡ 32 → ⊥)) ⊎ ((d : List ℕ) × (x ≡ codes "U+" ++ d) × (length d ≡ 4) × AllDigits 16 d × (digits_value 16 d ≡ a))
+IsLetter x a =
+    ((x ≡ bytes_of a) × (is_letter a ≡ true) × (a ≡ 32 → ⊥))
+    ⊎ ((d : List ℕ) × (x ≡ codes "U+" ++ d) × (4 ≤ length d) × (length d ≤ 6) × AllDigits 16 d × (digits_value 16 d ≡ a))
 
 -- a weight is written as decimal digits, one or more, whose number is at most 65,535
 abbrev pub IsWeight : List ℕ → (weight : ℕ) → Type 0
@@ -30,8 +42,8 @@ IsReserved w = (w ≡ codes "letter") ⊎ ((w ≡ codes "pair") ⊎ ((w ≡ code
 -- the line has the form of what is said: a word, and behind it what the word asks for, one space between; or a name alone, where
 -- the line is not empty, and is none of the five words, neither alone nor with a text behind
 abbrev pub HasForm : Saying → (line : List ℕ) → Type 0
-HasForm (enters (Letter a w)) l =
-    (x : List ℕ) × (y : List ℕ) × IsLetter x a × (a < 256) × AreWeights y w × (l ≡ codes "letter " ++ (x ++ (codes " " ++ y)))
+HasForm (enters (Letter e)) l =
+    (x : List ℕ) × (y : List ℕ) × IsLetter x e.letter × AreWeights y e.weights × (l ≡ codes "letter " ++ (x ++ (codes " " ++ y)))
 HasForm (enters (Pair p)) l =
     (x : List ℕ) × (y : List ℕ) × (z : List ℕ) × IsLetter x p.first × IsLetter y p.second × AreWeights z p.weights
     × (l ≡ codes "pair " ++ (x ++ (codes " " ++ (y ++ (codes " " ++ z)))))

@@ -1,12 +1,13 @@
 -- What is promised of texts and lines.
-use Rattle.std.specs.Prelude.{◌≡◌, ℕ, ◌-◌, ◌^◌, ◌<◌, List, [], ◌∷◌, ◌++◌, length, slice_index}
+use Rattle.std.specs.Prelude.{◌≡◌, ℕ, ◌-◌, ◌^◌, ◌<◌, List, [], ◌∷◌, ◌++◌, length, None, slice_index}
 use Rattle.std.specs.List.{All, join_with_byte}
 use Rattle.table.specs.declared.piece.Weights.{Weights}
-use Rattle.texts.specs.Forms.{HasForm}
-use Rattle.texts.specs.Lines.{Saying, enters, finds, meaning_of, names, says, unreadable, wants_key}
+use Rattle.texts.specs.Forms.{AreLetters, HasForm, IsDamage}
+use Rattle.texts.specs.Lines.{Saying, damaged, enters, finds, meaning_of, names, says, unreadable, wants_key}
 use Rattle.texts.specs.Parts.{parts, without_return}
 use Rattle.texts.specs.Written.{saying_text}
 use Rattle.texts.specs.declared.line.Entry.TheVariants.{Letter, Pair}
+use Rattle.utf8.specs.Reading.{unread}
 
 -- a text in which the mark does not stand
 abbrev pub IsWithout : (mark : ℕ) → List ℕ → Type 0
@@ -20,26 +21,34 @@ PartsJoin = (m : ℕ) (t : List ℕ) → (0 < length (parts m t)) × All (IsWith
 abbrev pub PartsApart : Type 0
 PartsApart = (m : ℕ) (s t : List ℕ) → parts m (s ++ m ∷ t) ≡ parts m s ++ parts m t
 
--- a line says just what it has the form of
-abbrev pub JustItsForm : Type 0
-JustItsForm = (s : Saying) (l : List ℕ) → (meaning_of l ≡ says s → HasForm s l) × (HasForm s l → meaning_of l ≡ says s)
+-- a line means damage at a place exactly if no letter can be read there, and this is the first such byte
+abbrev pub JustItsDamage : Type 0
+JustItsDamage = (l : List ℕ) (k : ℕ) → (meaning_of l ≡ damaged k → IsDamage l k) × (IsDamage l k → meaning_of l ≡ damaged k)
 
--- a line that is not empty can't be read exactly if it has no form
+-- any other line is letters, and says just what it has the form of
+abbrev pub JustItsForm : Type 0
+JustItsForm = (s : Saying) (l : List ℕ) → (meaning_of l ≡ says s → AreLetters l × HasForm s l) × (AreLetters l × HasForm s l → meaning_of l ≡ says s)
+
+-- what has no form: letters, one or more, that are the form of nothing
+abbrev pub HasNone : List ℕ → Type 0
+HasNone l = AreLetters l × (0 < length l) × ((s : Saying) → HasForm s l → ⊥)
+
+-- a line of letters that is not empty can't be read exactly if it has no form
 abbrev pub NoOther : Type 0
-NoOther = (l : List ℕ) → (meaning_of l ≡ unreadable → (0 < length l) × ((s : Saying) → HasForm s l → ⊥)) × ((0 < length l) × ((s : Saying) → HasForm s l → ⊥) → meaning_of l ≡ unreadable)
+NoOther = (l : List ℕ) → (meaning_of l ≡ unreadable → HasNone l) × (HasNone l → meaning_of l ≡ unreadable)
 
 -- weights of 16 bits
 abbrev pub AreShort : Weights → Type 0
 AreShort w = (w.primary < 2 ^ 16) × (w.secondary < 2 ^ 16) × (w.tertiary < 2 ^ 16)
 
--- a text that can stand in a line: no line feed is in it, and no carriage return at its end
+-- a text that can stand in a line: it is in UTF-8, no line feed is in it, and no carriage return at its end
 abbrev pub IsInLine : List ℕ → Type 0
-IsInLine n = IsWithout 10 n × (slice_index n (length n - 1) ≡ 13 → ⊥)
+IsInLine n = (unread n ≡ None) × IsWithout 10 n × (slice_index n (length n - 1) ≡ 13 → ⊥)
 
--- a command that can stand in a line
+-- a command that can stand in a line; six hexadecimal digits say letters below 16,777,216
 abbrev pub MayStand : Saying → Type 0
-MayStand (enters (Letter a w)) = (a < 256) × AreShort w
-MayStand (enters (Pair p)) = (p.first < 2 ^ 16) × (p.second < 2 ^ 16) × AreShort p.weights
+MayStand (enters (Letter e)) = (e.letter < 2 ^ 24) × AreShort e.weights
+MayStand (enters (Pair p)) = (p.first < 2 ^ 24) × (p.second < 2 ^ 24) × AreShort p.weights
 MayStand (finds n) = IsInLine n
 MayStand (wants_key n) = IsInLine n
 MayStand (names n) = IsInLine n
@@ -52,6 +61,7 @@ ReadsBack = (s : Saying) → MayStand s → (parts 10 (saying_text s) ≡ saying
 pub record TextLaws : Type 0 where
   pub parts_join : PartsJoin
   pub parts_apart : PartsApart
+  pub just_its_damage : JustItsDamage
   pub just_its_form : JustItsForm
   pub no_other : NoOther
   pub reads_back : ReadsBack

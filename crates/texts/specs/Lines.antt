@@ -1,5 +1,5 @@
 -- What a line says.
-use Rattle.std.specs.Prelude.{ℕ, cond, List, [], ◌∷◌, Some, None, codes, Option, nat_lt}
+use Rattle.std.specs.Prelude.{ℕ, cond, List, [], ◌∷◌, Some, None, codes, Option}
 use Rattle.std.specs.Option.{option_map}
 use Rattle.std.specs.Str.{bytes_eq}
 use Rattle.table.specs.declared.piece.Weights.{Weights}
@@ -8,11 +8,12 @@ use Rattle.texts.specs.declared.line.Command.TheVariants.{Enter, Find, Key, Name
 use Rattle.texts.specs.declared.line.Entry.{Entry}
 use Rattle.texts.specs.declared.line.Entry.TheVariants.{Letter, Pair}
 use Rattle.texts.specs.declared.line.Line.{Line}
-use Rattle.texts.specs.declared.line.Line.TheVariants.{Blank, Says, Unreadable}
+use Rattle.texts.specs.declared.line.Line.TheVariants.{Blank, NotUtf8, Says, Unreadable}
 use Rattle.texts.specs.declared.line.Word.{Word}
 use Rattle.texts.specs.declared.line.Word.TheVariants as word
 use Rattle.texts.specs.Numerals.{letter_of, number_of}
 use Rattle.texts.specs.Parts.{behind, front, words}
+use Rattle.utf8.specs.Reading.{unread}
 
 -- three weights, where all are numbers
 abbrev pub weights_from : Option ℕ → Option ℕ → Option ℕ → Option Weights
@@ -29,11 +30,11 @@ three_weights (a ∷ (b ∷ [])) = None
 three_weights (a ∷ (b ∷ (c ∷ []))) = weights_from (number_of a) (number_of b) (number_of c)
 three_weights (a ∷ (b ∷ (c ∷ (d ∷ ws)))) = None
 
--- a letter's weights, where the letter is one of a table's 256
+-- a letter and its weights; whether it is one of the table is for the table to say
 abbrev pub letter_weighs : Option ℕ → Option Weights → Option Entry
 letter_weighs None w = None
 letter_weighs (Some a) None = None
-letter_weighs (Some a) (Some w) = cond (nat_lt a 256) (Some (Letter a w)) None
+letter_weighs (Some a) (Some w) = Some (Letter (record { letter = a; weights = w }))
 
 -- what stands behind the word letter
 abbrev pub letter_entry : List (List ℕ) → Option Entry
@@ -88,21 +89,31 @@ by_word None text l = Some (names l)
 abbrev pub command_of : List ℕ → Option Saying
 command_of l = by_word (word_of (front 32 l)) (text_of (behind 32 l)) l
 
--- what any line may mean: nothing, or what it says; or it can't be read
+-- what any line may mean: nothing, or what it says; or it can't be read, or has a byte at which no letter can be read: its place
 pub data Meaning : Type 0 where
   blank : Meaning
   says : Saying → Meaning
   unreadable : Meaning
+  damaged : ℕ → Meaning
 
 -- what is no command can't be read
 abbrev pub said : Option Saying → Meaning
 said None = unreadable
 said (Some s) = says s
 
+-- what a line means all of which is letters
+abbrev pub whole_meaning : List ℕ → Meaning
+whole_meaning [] = blank
+whole_meaning (x ∷ xs) = said (command_of (x ∷ xs))
+
+-- the first byte at which no letter can be read is told before all else
+abbrev pub unless_damaged : Option ℕ → Meaning → Meaning
+unless_damaged None m = m
+unless_damaged (Some k) m = damaged k
+
 -- what a line means
 unfoldable pub meaning_of : List ℕ → Meaning
-meaning_of [] = blank
-meaning_of (x ∷ xs) = said (command_of (x ∷ xs))
+meaning_of l = unless_damaged (unread l) (whole_meaning l)
 
 -- a command in plain values
 abbrev pub saying : Command → Saying
@@ -116,3 +127,4 @@ abbrev pub meaning : Line → Meaning
 meaning Blank = blank
 meaning (Says c) = says (saying c)
 meaning Unreadable = unreadable
+meaning (NotUtf8 k) = damaged k

@@ -1,7 +1,10 @@
 -- Numbers and letters as they are written in a line.
-use Rattle.std.specs.Prelude.{ℕ, ◌+◌, ◌-◌, ◌*◌, Bool, true, cond, ◌&&◌, List, [], ◌∷◌, length, Some, None, Option, ◌==◌, nat_le, nat_lt, slice_index}
-use Rattle.std.specs.Char.{is_ascii_digit}
-use Rattle.std.specs.Int.{is_in_range}
+use Rattle.std.specs.Prelude.{ℕ, ◌+◌, ◌-◌, ◌*◌, Bool, true, cond, ◌&&◌, List, [], ◌∷◌, length, drop, Some, None, Option, ◌==◌, nat_le, nat_lt, slice_index}
+use Rattle.std.specs.Char.{is_ascii_digit, is_digit}
+use Rattle.std.specs.List.{list_all}
+use Rattle.std.specs.Str.Parse.{digits_value}
+use Rattle.utf8.specs.Ranges.{are_letter}
+use Rattle.utf8.specs.Ranges as utf8
 
 -- nothing but digits
 unfoldable pub all_digits : List ℕ → Bool
@@ -17,22 +20,14 @@ value n (x ∷ xs) = value (10 * n + (x - 48)) xs
 abbrev pub number_of : List ℕ → Option ℕ
 number_of w = cond (nat_lt 0 (length w) && (all_digits w && nat_le (value 0 w) 65535)) (Some (value 0 w)) None
 
--- 0 to 9, A to F, a to f
-abbrev pub hex_digit : ℕ → Option ℕ
-hex_digit x = cond (is_ascii_digit x) (Some (x - 48)) (cond (is_in_range 65 70 x) (Some (x - 55)) (cond (is_in_range 97 102 x) (Some (x - 87)) None))
+-- the number of four to six hexadecimal digits, of either case
+abbrev pub hex_of : List ℕ → Option ℕ
+hex_of d = cond ((nat_le 4 (length d) && nat_le (length d) 6) && list_all (λ x. is_digit x 16) d) (Some (digits_value 16 d)) None
 
--- the number of four hexadecimal digits
-abbrev pub hex_of : Option ℕ → Option ℕ → Option ℕ → Option ℕ → Option ℕ
-hex_of None b c d = None
-hex_of (Some w) None c d = None
-hex_of (Some w) (Some x) None d = None
-hex_of (Some w) (Some x) (Some y) None = None
-hex_of (Some w) (Some x) (Some y) (Some z) = Some (4096 * w + (256 * x + (16 * y + z)))
+-- the letter that bytes are, all of them
+abbrev pub one_letter : List ℕ → Option ℕ
+one_letter w = cond (are_letter w) (Some (utf8.letter_of w)) None
 
--- a letter: written as itself, or by its number as U+ and four hexadecimal digits
+-- a letter: written as itself, or by its number as U+ and four to six hexadecimal digits
 unfoldable pub letter_of : List ℕ → Option ℕ
-letter_of w =
-    cond (length w == 1) (Some (slice_index w 0))
-    (cond (length w == 6 && (slice_index w 0 == 85 && slice_index w 1 == 43))
-    (hex_of (hex_digit (slice_index w 2)) (hex_digit (slice_index w 3)) (hex_digit (slice_index w 4)) (hex_digit (slice_index w 5)))
-    None)
+letter_of w = cond (slice_index w 0 == 85 && slice_index w 1 == 43) (hex_of (drop 2 w)) (one_letter w)

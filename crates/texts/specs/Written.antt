@@ -1,30 +1,32 @@
 -- How letters, entries, commands, numbers, changes and messages are written.
-use Rattle.std.specs.Prelude.{ℕ, ◌/◌, ◌%◌, true, cond, ◌&&◌, List, [], ◌∷◌, ◌++◌, codes, decimal, nat_le}
-use Rattle.std.specs.Fmt.{digit_glyph}
+use Rattle.std.specs.Prelude.{ℕ, ◌-◌, true, cond, ◌&&◌, List, [], ◌∷◌, ◌++◌, codes, decimal, length, nat_le, replicate}
+use Rattle.std.specs.Fmt.{digits}
 use Rattle.keys.specs.declared.level.Level.{Level}
 use Rattle.keys.specs.declared.level.Level.TheVariants.{Primary, Secondary, Tertiary}
 use Rattle.keys.specs.declared.fault.NameRefusal.{NameRefusal}
-use Rattle.keys.specs.declared.fault.NameRefusal.TheVariants.{TooLong}
+use Rattle.keys.specs.declared.fault.NameRefusal.TheVariants.{NotUtf8, TooLong}
 use Rattle.keys.specs.Refusals.{name_refusal_number, name_refusal_place}
 use Rattle.order.specs.declared.newer.Change.{Change}
-use Rattle.order.specs.declared.newer.Change.TheVariants.{Joins, Counts, Order}
+use Rattle.order.specs.declared.newer.Change.TheVariants.{Utf8, Joins, Counts, Order}
 use Rattle.order.specs.declared.piece.Piece.{Piece}
 use Rattle.order.specs.declared.piece.Piece.TheVariants as piece
 use Rattle.table.specs.declared.fault.Refusal.{Refusal}
-use Rattle.table.specs.declared.fault.Refusal.TheVariants.{Letters, Shape, TooMany, Foreign, Twice}
+use Rattle.table.specs.declared.fault.Refusal.TheVariants.{Letters, Shape, TooMany, Foreign, Twice, TooManyLetters, NoLetter, LetterTwice}
 use Rattle.table.specs.declared.piece.Weights.{Weights}
 use Rattle.table.specs.Refusals.{refusal_number, refusal_place}
 use Rattle.texts.specs.declared.fault.Fault.{Fault}
-use Rattle.texts.specs.declared.fault.Fault.TheVariants.{Table, Name, Question, Text, Again}
+use Rattle.texts.specs.declared.fault.Fault.TheVariants.{Table, Name, Question, Text, Bytes}
 use Rattle.texts.specs.declared.line.Entry.{Entry}
 use Rattle.texts.specs.declared.line.Entry.TheVariants as entry
 use Rattle.texts.specs.Lines.{Saying, enters, finds, names, wants_key}
 
--- a letter is written as itself where it can be seen, else by its number, in large hexadecimal digits
+-- large hexadecimal digits, with zeros in front where there are fewer than four
+abbrev pub hex_text : ℕ → List ℕ
+hex_text a = replicate (4 - length (digits 16 true a)) 48 ++ digits 16 true a
+
+-- a letter is written as itself where it can be seen and is one byte, else by its number
 abbrev pub letter_text : ℕ → List ℕ
-letter_text a =
-    cond (nat_le 33 a && nat_le a 126) (a ∷ [])
-    (codes "U+" ++ (digit_glyph true (a / 4096) ∷ (digit_glyph true (a / 256 % 16) ∷ (digit_glyph true (a / 16 % 16) ∷ (digit_glyph true (a % 16) ∷ [])))))
+letter_text a = cond (nat_le 33 a && nat_le a 126) (a ∷ []) (codes "U+" ++ hex_text a)
 
 -- three numbers with a space between
 abbrev pub weights_text : Weights → List ℕ
@@ -32,7 +34,7 @@ weights_text w = decimal w.primary ++ (codes " " ++ (decimal w.secondary ++ (cod
 
 -- an entry, as the line that says it
 abbrev pub entry_text : Entry → List ℕ
-entry_text (entry.Letter a w) = codes "letter " ++ (letter_text a ++ (codes " " ++ weights_text w))
+entry_text (entry.Letter e) = codes "letter " ++ (letter_text e.letter ++ (codes " " ++ weights_text e.weights))
 entry_text (entry.Pair p) = codes "pair " ++ (letter_text p.first ++ (codes " " ++ (letter_text p.second ++ (codes " " ++ weights_text p.weights))))
 
 -- a command, as the line that says it
@@ -48,45 +50,54 @@ numbers_text [] = []
 numbers_text (x ∷ []) = decimal x
 numbers_text (x ∷ (y ∷ xs)) = decimal x ++ (codes " " ++ numbers_text (y ∷ xs))
 
--- the number of what is turned away: 1 a table, 2 a name, 3 a text
+-- the number of what is turned away: 1 a table, 2 a name, 3 a text, 4 a letter, 5 bytes
 abbrev pub fault_number : Fault → ℕ
 fault_number (Table why) = refusal_number why
 fault_number (Name why) = name_refusal_number why
 fault_number (Question why) = name_refusal_number why
 fault_number (Text line) = 3
-fault_number (Again line) = 3
+fault_number (Bytes byte) = 5
 
--- its place: the table's, how long the name is, or the line
+-- its place: the table's, the name's, the line, or the byte
 abbrev pub fault_place : Fault → ℕ
 fault_place (Table why) = refusal_place why
 fault_place (Name why) = name_refusal_place why
 fault_place (Question why) = name_refusal_place why
 fault_place (Text line) = line
-fault_place (Again line) = line
+fault_place (Bytes byte) = byte
 
 -- what is wrong with a table
 abbrev pub refusal_sentence : Refusal → List ℕ
 refusal_sentence Letters = codes "a table has three weights for each of 256 letters"
 refusal_sentence Shape = codes "each pair is five numbers, two letters and three weights"
 refusal_sentence TooMany = codes "a table has at most 200 pairs"
-refusal_sentence (Foreign k) = codes "the letters of a pair are 0 to 255"
+refusal_sentence (Foreign k) = codes "the letters of a pair are at most U+FFFF, and U+00FF where each byte is one"
 refusal_sentence (Twice k) = codes "these two letters are a pair already"
+refusal_sentence TooManyLetters = codes "a table has at most 2000 letters that weigh something"
+refusal_sentence (NoLetter k) = codes "letters are U+0000 to U+FFFF, without U+D800 to U+DFFF"
+refusal_sentence (LetterTwice k) = codes "this letter weighs something already"
+
+-- what is wrong with bytes
+abbrev pub bytes_sentence : List ℕ
+bytes_sentence = codes "names are bytes in UTF-8, with letters up to U+FFFF"
 
 -- what is wrong with a name
 abbrev pub name_sentence : NameRefusal → List ℕ
 name_sentence (TooLong k) = codes "a name has at most 1000 letters"
+name_sentence (NotUtf8 k) = bytes_sentence
 
 -- what is wrong with a name that is asked about
 abbrev pub question_sentence : NameRefusal → List ℕ
 question_sentence (TooLong k) = codes "a name that is asked about has at most 1000 letters"
+question_sentence (NotUtf8 k) = bytes_sentence
 
 -- what is wrong
 abbrev pub sentence_of : Fault → List ℕ
 sentence_of (Table why) = refusal_sentence why
 sentence_of (Name why) = name_sentence why
 sentence_of (Question why) = question_sentence why
-sentence_of (Text line) = codes "a line that begins so is 'letter X a b c' or 'pair X Y a b c', one space between, letters up to U+00FF, weights up to 65535; a name that begins so needs 'name ' in front"
-sentence_of (Again line) = codes "this letter has a line already"
+sentence_of (Text line) = codes "a line that begins so is 'letter X a b c' or 'pair X Y a b c', one space between, letters as themselves or as U+ and four to six hexadecimal digits, weights up to 65535; a name that begins so needs 'name ' in front"
+sentence_of (Bytes byte) = bytes_sentence
 
 -- the message: number, place and sentence
 abbrev pub fault_text : Fault → List ℕ
@@ -105,6 +116,7 @@ level_number Tertiary = 3
 
 -- what a newer table changes
 abbrev pub change_text : Change → List ℕ
+change_text Utf8 = codes "names are in UTF-8 under only one of the tables"
 change_text (Joins p) = piece_text p ++ codes " are one together in only one of the tables"
 change_text (Counts p l) = piece_text p ++ (codes " weighs 0 on level " ++ (decimal (level_number l) ++ codes " in only one of the tables"))
 change_text (Order p q l) = piece_text p ++ (codes " and " ++ (piece_text q ++ (codes " stand otherwise on level " ++ decimal (level_number l))))

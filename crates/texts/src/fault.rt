@@ -1,6 +1,6 @@
 // Why a line was turned away.
 ghost use Rattle.std.specs.Prelude.{◌≡◌, Some};
-ghost use Rattle.texts.specs.Written.{fault_number, fault_place, fault_text, name_sentence, question_sentence, refusal_sentence, sentence_of};
+ghost use Rattle.texts.specs.Written.{bytes_sentence, fault_number, fault_place, fault_text, name_sentence, question_sentence, refusal_sentence, sentence_of};
 
 use keys::NameRefusal;
 use std::fmt;
@@ -16,19 +16,20 @@ pub enum Fault {
     Question(NameRefusal),
     // It can't be read: its line, counted from 0.
     Text(usize),
-    // It weighs a letter that an earlier line has weighed: its line, counted from 0.
-    Again(usize),
+    // It is not in UTF-8, or has a letter above 65,535: the first byte of the line at which no letter can be read.
+    Bytes(usize),
 }
 
 impl Fault {
-    // The number that is reported: 1 a table, 2 a name, 3 a text.
+    // The number that is reported: 1 a table, 2 a name, 3 a text, 4 a letter, 5 bytes.
     pub fn number(self) -> u64
         ensures { result ≡ fault_number self }
     {
         match self {
             Fault::Table(why) => why.number(),
             Fault::Name(why) | Fault::Question(why) => why.number(),
-            Fault::Text(_) | Fault::Again(_) => 3,
+            Fault::Text(_) => 3,
+            Fault::Bytes(_) => 5,
         }
     }
 
@@ -39,7 +40,8 @@ impl Fault {
         match self {
             Fault::Table(why) => why.place(),
             Fault::Name(why) | Fault::Question(why) => why.place(),
-            Fault::Text(line) | Fault::Again(line) => line,
+            Fault::Text(line) => line,
+            Fault::Bytes(byte) => byte,
         }
     }
 
@@ -52,8 +54,8 @@ impl Fault {
             Fault::Name(why) => name_sentence(why),
             Fault::Question(why) => question_sentence(why),
             Fault::Text(_) =>
-                "a line that begins so is 'letter X a b c' or 'pair X Y a b c', one space between, letters up to U+00FF, weights up to 65535; a name that begins so needs 'name ' in front",
-            Fault::Again(_) => "this letter has a line already",
+                "a line that begins so is 'letter X a b c' or 'pair X Y a b c', one space between, letters as themselves or as U+ and four to six hexadecimal digits, weights up to 65535; a name that begins so needs 'name ' in front",
+            Fault::Bytes(_) => bytes_sentence(),
         }
     }
 }
@@ -65,8 +67,12 @@ fn refusal_sentence(why: Refusal) -> &'static str
         Refusal::Letters => "a table has three weights for each of 256 letters",
         Refusal::Shape => "each pair is five numbers, two letters and three weights",
         Refusal::TooMany => "a table has at most 200 pairs",
-        Refusal::Foreign(_) => "the letters of a pair are 0 to 255",
+        Refusal::Foreign(_) =>
+            "the letters of a pair are at most U+FFFF, and U+00FF where each byte is one",
         Refusal::Twice(_) => "these two letters are a pair already",
+        Refusal::TooManyLetters => "a table has at most 2000 letters that weigh something",
+        Refusal::NoLetter(_) => "letters are U+0000 to U+FFFF, without U+D800 to U+DFFF",
+        Refusal::LetterTwice(_) => "this letter weighs something already",
     }
 }
 
@@ -75,6 +81,7 @@ fn name_sentence(why: NameRefusal) -> &'static str
 {
     match why {
         NameRefusal::TooLong(_) => "a name has at most 1000 letters",
+        NameRefusal::NotUtf8(_) => bytes_sentence(),
     }
 }
 
@@ -83,7 +90,14 @@ fn question_sentence(why: NameRefusal) -> &'static str
 {
     match why {
         NameRefusal::TooLong(_) => "a name that is asked about has at most 1000 letters",
+        NameRefusal::NotUtf8(_) => bytes_sentence(),
     }
+}
+
+fn bytes_sentence() -> &'static str
+    ensures { result.now ≡ bytes_sentence }
+{
+    "names are bytes in UTF-8, with letters up to U+FFFF"
 }
 
 impl fmt::Display for Fault {

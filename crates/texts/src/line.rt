@@ -6,13 +6,14 @@ ghost use Rattle.texts.specs.Parts.{words};
 
 use crate::numeral::{letter_number, number};
 use crate::part::{Cut, Parts, first_part};
-use table::{Pair, Weights};
+use table::{Letter, Pair, Weights};
+use utf8::count_letters;
 
 // What a line of a table enters.
 #[derive(Clone, Copy, PartialEq, Eq, Debug)]
 pub enum Entry {
     // `letter X a b c`: what a letter weighs.
-    Letter(u8, Weights),
+    Letter(Letter),
     // `pair X Y a b c`: two letters that are one together.
     Pair(Pair),
 }
@@ -36,14 +37,19 @@ pub enum Line<'a> {
     Says(Command<'a>),
     // It begins with the word of an entry, and has not its form.
     Unreadable,
+    // It is not in UTF-8, or has a letter above 65,535: the first byte at which no letter can be read.
+    NotUtf8(usize),
 }
 
 impl<'a> Line<'a> {
     // What a line says, without its end.
-    #[tactic(auto, using(crate::proofs::Saying::blank_line, crate::proofs::Saying::some_line))]
+    #[tactic(auto, using(crate::proofs::Saying::blank_line, crate::proofs::Saying::damaged_line, crate::proofs::Saying::some_line))]
     pub fn read(line: &'a [u8]) -> Line<'a>
         ensures { meaning result ≡ meaning_of line.now }
     {
+        if let Err(byte) = count_letters(line) {
+            return Line::NotUtf8(byte);
+        }
         if line.is_empty() {
             return Line::Blank;
         }
@@ -103,8 +109,8 @@ fn read_letter(text: &[u8]) -> Option<Entry>
 {
     let mut words = Parts::new(text, b' ');
     let letter = letter_number(words.next()?)?;
-    let letter = u8::try_from(letter).ok()?;
-    Some(Entry::Letter(letter, read_weights(words)?))
+    let weights = read_weights(words)?;
+    Some(Entry::Letter(Letter { letter, weights }))
 }
 
 // Two letters and what they weigh together.

@@ -10,7 +10,7 @@ use table::Weights;
 
 // A letter, as itself where it can be seen and else as `U+00FC`.
 #[derive(Clone, Copy)]
-struct Letter(u16);
+struct Letter(u32);
 
 impl fmt::Display for Letter {
     ghost output = { λ x. Some (letter_text x.0) };
@@ -30,9 +30,9 @@ impl fmt::Display for Entry {
 
     fn fmt<W: fmt::Write>(&self, f: &mut fmt::Formatter<W>) -> fmt::Result {
         match *self {
-            Entry::Letter(letter, weights) => {
-                let letter = Letter(u16::from(letter));
-                let weights = Levels(weights);
+            Entry::Letter(entry) => {
+                let letter = Letter(entry.letter);
+                let weights = Levels(entry.weights);
                 write!(f, "letter {letter} {weights}")
             }
             Entry::Pair(pair) => {
@@ -89,6 +89,7 @@ impl fmt::Display for Told {
 
     fn fmt<W: fmt::Write>(&self, f: &mut fmt::Formatter<W>) -> fmt::Result {
         match self.0 {
+            Change::Utf8 => write!(f, "names are in UTF-8 under only one of the tables"),
             Change::Joins(piece) => {
                 let piece = Letters(piece);
                 write!(f, "{piece} are one together in only one of the tables")
@@ -121,12 +122,12 @@ impl fmt::Display for Letters {
     fn fmt<W: fmt::Write>(&self, f: &mut fmt::Formatter<W>) -> fmt::Result {
         match self.0 {
             Piece::Letter(letter) => {
-                let letter = Letter(u16::from(letter));
+                let letter = Letter(letter);
                 write!(f, "{letter}")
             }
             Piece::Pair(first, second) => {
-                let first = Letter(u16::from(first));
-                let second = Letter(u16::from(second));
+                let first = Letter(first);
+                let second = Letter(second);
                 write!(f, "{first} {second}")
             }
         }

@@ -1,6 +1,6 @@
 // What lines say.
 use std::process::Abort;
-use table::{Pair, Weights};
+use table::{Letter, Pair, Weights};
 use texts::{Command, Entry, Line, Parts, whole_number, without_return};
 
 const ONE: Weights = Weights {
@@ -9,11 +9,11 @@ const ONE: Weights = Weights {
     tertiary: 3,
 };
 
-fn letter(letter: u8, weights: Weights) -> Line<'static> {
-    Line::Says(Command::Enter(Entry::Letter(letter, weights)))
+fn letter(letter: u32, weights: Weights) -> Line<'static> {
+    Line::Says(Command::Enter(Entry::Letter(Letter { letter, weights })))
 }
 
-fn pair(first: u16, second: u16) -> Line<'static> {
+fn pair(first: u32, second: u32) -> Line<'static> {
     Line::Says(Command::Enter(Entry::Pair(Pair {
         first,
         second,
@@ -40,9 +40,22 @@ fn letters(rt: HostRuntime) {
             Case(b"letter a 1 2 3", letter(97, ONE)),
             Case(b"letter U 1 2 3", letter(85, ONE)),
             Case(b"letter \t 1 2 3", letter(9, ONE)),
-            Case(b"letter \xff 1 2 3", letter(255, ONE)),
-            Case(b"letter U+0000 1 2 3", letter(0, ONE)),
-            Case(b"letter U+00ff 1 2 3", letter(255, ONE)),
+            Case(b"letter + 1 2 3", letter(43, ONE)),
+            Case(b"letter \x7f 1 2 3", letter(127, ONE)),
+            Case(b"letter \xc2\x80 1 2 3", letter(128, ONE)),
+            Case(
+                b"letter \xc3\xbc 215 2 1",
+                letter(
+                    252,
+                    Weights {
+                        primary: 215,
+                        secondary: 2,
+                        tertiary: 1,
+                    },
+                ),
+            ),
+            Case(b"letter \xe2\x82\xac 1 2 3", letter(0x20ac, ONE)),
+            Case(b"letter \xef\xbf\xbf 1 2 3", letter(0xffff, ONE)),
             Case(
                 b"letter U+00Fa 001 0000000000000000000002 3",
                 letter(250, ONE),
@@ -62,6 +75,44 @@ fn letters(rt: HostRuntime) {
     );
 }
 
+// A number is four to six digits, also where the table has no such letter.
+#[test]
+fn letters_by_number(rt: HostRuntime) {
+    hold(
+        &rt,
+        &[
+            Case(b"letter U+0000 1 2 3", letter(0, ONE)),
+            Case(b"letter U+00ff 1 2 3", letter(255, ONE)),
+            Case(b"letter U+0100 1 2 3", letter(256, ONE)),
+            Case(b"letter U+00041 1 2 3", letter(65, ONE)),
+            Case(b"letter U+000041 1 2 3", letter(65, ONE)),
+            Case(
+                b"letter U+1F600 1 1 1",
+                letter(
+                    0x1f600,
+                    Weights {
+                        primary: 1,
+                        secondary: 1,
+                        tertiary: 1,
+                    },
+                ),
+            ),
+            Case(b"letter U+D800 1 2 3", letter(0xd800, ONE)),
+            Case(b"letter U+dFfF 1 2 3", letter(0xdfff, ONE)),
+            Case(b"letter U+10FFFF 1 2 3", letter(0x10ffff, ONE)),
+            Case(b"letter U+ffffff 1 2 3", letter(0xffffff, ONE)),
+            Case(b"letter U+0000041 1 2 3", Line::Unreadable),
+            Case(b"letter U+1000000 1 2 3", Line::Unreadable),
+            Case(b"letter U+041 1 2 3", Line::Unreadable),
+            Case(b"letter U+ 1 2 3", Line::Unreadable),
+            Case(b"letter u+0041 1 2 3", Line::Unreadable),
+            Case(b"letter U-0041 1 2 3", Line::Unreadable),
+            Case(b"letter U+00G1 1 2 3", Line::Unreadable),
+            Case(b"letter U+00\xc3\xbc 1 2 3", Line::Unreadable),
+        ],
+    );
+}
+
 #[test]
 fn pairs(rt: HostRuntime) {
     hold(
@@ -69,6 +120,11 @@ fn pairs(rt: HostRuntime) {
         &[
             Case(b"pair c h 1 2 3", pair(99, 104)),
             Case(b"pair U+0020 U+FFFF 1 2 3", pair(32, 65535)),
+            Case(b"pair \xc3\xa4 \xe2\x82\xac 1 2 3", pair(228, 0x20ac)),
+            Case(b"pair U+1F600 \xef\xbf\xbf 1 2 3", pair(0x1f600, 0xffff)),
+            Case(b"pair U+dc00 U+FFFFFF 1 2 3", pair(0xdc00, 0xffffff)),
+            Case(b"pair \xc3\xa4\xe2\x82\xac 1 2 3", Line::Unreadable),
+            Case(b"pair a U+0000041 1 2 3", Line::Unreadable),
             Case(b"pair letter h 1 2 3", Line::Unreadable),
             Case(b"pair c 1 2 3", Line::Unreadable),
             Case(b"pair c h i 1 2 3", Line::Unreadable),
@@ -101,11 +157,12 @@ fn questions(rt: HostRuntime) {
             Case(b"key ", key(b"")),
             Case(b"key  a b ", key(b" a b ")),
             Case(b"key letter a 1 2 3", key(b"letter a 1 2 3")),
-            Case(b"key \x00\xff\r", key(b"\x00\xff\r")),
+            Case(b"key \x00\xc3\xbc\r", key(b"\x00\xc3\xbc\r")),
             Case(b"find cab", find(b"cab")),
             Case(b"find", find(b"")),
             Case(b"find ", find(b"")),
             Case(b"find  c ", find(b" c ")),
+            Case(b"find \xef\xbf\xbf", find(b"\xef\xbf\xbf")),
             Case(b"find find", find(b"find")),
         ],
     );
@@ -136,6 +193,8 @@ fn names(rt: HostRuntime) {
             Case(b"Letter a 1 2 3", name(b"Letter a 1 2 3")),
             Case(b" letter a 1 2 3", name(b" letter a 1 2 3")),
             Case(b"run d z s 45 1 1", name(b"run d z s 45 1 1")),
+            Case(b"K\xc3\xa4se", name(b"K\xc3\xa4se")),
+            Case(b"\xe2\x82\xac 5", name(b"\xe2\x82\xac 5")),
             Case(b"\x00", name(b"\x00")),
             Case(b"\r", name(b"\r")),
         ],
@@ -150,6 +209,8 @@ fn unreadable(rt: HostRuntime) {
             Case(b"letter", Line::Unreadable),
             Case(b"letter ", Line::Unreadable),
             Case(b"letter ab 1 2 3", Line::Unreadable),
+            Case(b"letter \xc3\xa4\xc3\xb6 1 2 3", Line::Unreadable),
+            Case(b"letter a\xe2\x82\xac 1 2 3", Line::Unreadable),
             Case(b"letter  1 2 3", Line::Unreadable),
             Case(b"letter a  1 2 3", Line::Unreadable),
             Case(b"letter a 1 2 3 ", Line::Unreadable),
@@ -171,12 +232,29 @@ fn bad_numbers(rt: HostRuntime) {
             Case(b"letter a +1 2 3", Line::Unreadable),
             Case(b"letter a -1 2 3", Line::Unreadable),
             Case(b"letter a 1.0 2 3", Line::Unreadable),
-            Case(b"letter U+0100 1 2 3", Line::Unreadable),
-            Case(b"letter U+041 1 2 3", Line::Unreadable),
-            Case(b"letter U+00041 1 2 3", Line::Unreadable),
-            Case(b"letter u+0041 1 2 3", Line::Unreadable),
-            Case(b"letter U-0041 1 2 3", Line::Unreadable),
-            Case(b"letter U+00G1 1 2 3", Line::Unreadable),
+        ],
+    );
+}
+
+// The first byte at which no letter can be read, whatever the line is, and whatever else is wrong with it.
+#[test]
+fn damaged(rt: HostRuntime) {
+    hold(
+        &rt,
+        &[
+            Case(b"\xff", Line::NotUtf8(0)),
+            Case(b" \x80", Line::NotUtf8(1)),
+            Case(b"letter \xff 1 2 3", Line::NotUtf8(7)),
+            Case(b"letter \xc3 1 2 3", Line::NotUtf8(7)),
+            Case(b"letter \xc3\xbc 1 2 3\x80", Line::NotUtf8(15)),
+            Case(b"letter ab 1 \xed\xa0\x80", Line::NotUtf8(12)),
+            Case(b"pair \xe2\x82 h 1 2 3", Line::NotUtf8(5)),
+            Case(b"pair \xff", Line::NotUtf8(5)),
+            Case(b"find c\xf0\x9f\x98\x80", Line::NotUtf8(6)),
+            Case(b"key \xe2\x82\xac\xe2\x82", Line::NotUtf8(7)),
+            Case(b"name \xc0\xaf\xff", Line::NotUtf8(5)),
+            Case(b"name\xff", Line::NotUtf8(4)),
+            Case(b"K\xc3\xa4s\xe4", Line::NotUtf8(4)),
         ],
     );
 }

@@ -2,7 +2,7 @@
 use keys::{Level, NameRefusal};
 use order::{Change, Piece};
 use std::test::Fail;
-use table::{Pair, Refusal, Weights};
+use table::{Letter, Pair, Refusal, Weights};
 use texts::{Command, Entry, Fault, Line, Numbers, Told, without_return};
 
 const ONE: Weights = Weights {
@@ -14,18 +14,40 @@ const ONE: Weights = Weights {
 #[test]
 fn entries(rt: HostRuntime) -> Result<(), Fail> {
     let heap = rt.alloc();
-    let letter = Entry::Letter(33, ONE).to_string(heap)?;
-    assert_eq!(rt; letter.as_str(), "letter ! 1 0 65535");
-    let last = Entry::Letter(255, ONE).to_string(heap)?;
-    assert_eq!(rt; last.as_str(), "letter U+00FF 1 0 65535");
+    for Text(number, text) in [
+        Text(0, "letter U+0000 1 0 65535"),
+        Text(33, "letter ! 1 0 65535"),
+        Text(255, "letter U+00FF 1 0 65535"),
+        Text(0xabc, "letter U+0ABC 1 0 65535"),
+        Text(0xffff, "letter U+FFFF 1 0 65535"),
+        Text(0x10000, "letter U+10000 1 0 65535"),
+        Text(0x10ffff, "letter U+10FFFF 1 0 65535"),
+        Text(u32::MAX, "letter U+FFFFFFFF 1 0 65535"),
+    ] {
+        let written = letter(number).to_string(heap)?;
+        assert_eq!(rt; written.as_str(), text);
+    }
     let near = pair(32, 126).to_string(heap)?;
     assert_eq!(rt; near.as_str(), "pair U+0020 ~ 1 0 65535");
     let wide = pair(127, 43981).to_string(heap)?;
     assert_eq!(rt; wide.as_str(), "pair U+007F U+ABCD 1 0 65535");
+    let large = pair(0x20ac, 0x1f600).to_string(heap)?;
+    assert_eq!(rt; large.as_str(), "pair U+20AC U+1F600 1 0 65535");
     Ok(())
 }
 
-fn pair(first: u16, second: u16) -> Entry {
+// A letter, and the line that enters it.
+#[derive(Clone, Copy)]
+struct Text(u32, &'static str);
+
+fn letter(letter: u32) -> Entry {
+    Entry::Letter(Letter {
+        letter,
+        weights: ONE,
+    })
+}
+
+fn pair(first: u32, second: u32) -> Entry {
     Entry::Pair(Pair {
         first,
         second,
@@ -46,10 +68,17 @@ fn commands(rt: HostRuntime) -> Result<(), Fail> {
         Case(Command::Key(b" "), b"key  "),
         Case(Command::Name(b"cab"), b"name cab"),
         Case(Command::Name(b"find c"), b"name find c"),
-        Case(Command::Name(b"\x00\xff\r "), b"name \x00\xff\r "),
+        Case(Command::Name(b"\x00\xc3\xbc\r "), b"name \x00\xc3\xbc\r "),
+        Case(Command::Find(b"\xef\xbf\xbf"), b"find \xef\xbf\xbf"),
+        Case(Command::Enter(letter(32)), b"letter U+0020 1 0 65535"),
+        Case(Command::Enter(letter(0xd800)), b"letter U+D800 1 0 65535"),
         Case(
-            Command::Enter(Entry::Letter(32, ONE)),
-            b"letter U+0020 1 0 65535",
+            Command::Enter(letter(0xffffff)),
+            b"letter U+FFFFFF 1 0 65535",
+        ),
+        Case(
+            Command::Enter(pair(0x20ac, 0x1f600)),
+            b"pair U+20AC U+1F600 1 0 65535",
         ),
         Case(
             Command::Enter(pair(10, 13)),
@@ -63,36 +92,83 @@ fn commands(rt: HostRuntime) -> Result<(), Fail> {
     Ok(())
 }
 
+// What can't stand in a line is written, and not read again.
+#[test]
+fn not_read_again(rt: HostRuntime) -> Result<(), Fail> {
+    let heap = rt.alloc();
+    let seven = Command::Enter(letter(0x1000000)).to_line(heap)?;
+    assert_eq!(rt; seven.as_slice(), b"letter U+1000000 1 0 65535".as_slice());
+    assert_eq!(rt; Line::read(&seven), Line::Unreadable);
+    let damaged = Command::Key(b"a\xff").to_line(heap)?;
+    assert_eq!(rt; damaged.as_slice(), b"key a\xff".as_slice());
+    assert_eq!(rt; Line::read(&damaged), Line::NotUtf8(5));
+    Ok(())
+}
+
+// What is turned away, and the message.
+#[derive(Clone, Copy)]
+struct Said(Fault, &'static str);
+
 #[test]
 fn messages(rt: HostRuntime) -> Result<(), Fail> {
     let heap = rt.alloc();
-    let twice = Fault::Table(Refusal::Twice(17)).to_string(heap)?;
-    assert_eq!(rt;
-        twice.as_str(),
-        "turned away with 1 at 17: these two letters are a pair already"
-    );
-    let many = Fault::Table(Refusal::TooMany).to_string(heap)?;
-    assert_eq!(rt;
-        many.as_str(),
-        "turned away with 1 at 0: a table has at most 200 pairs"
-    );
-    let long = Fault::Name(NameRefusal::TooLong(1001)).to_string(heap)?;
-    assert_eq!(rt;
-        long.as_str(),
-        "turned away with 2 at 1001: a name has at most 1000 letters"
-    );
-    let asked = Fault::Question(NameRefusal::TooLong(2000)).to_string(heap)?;
-    assert_eq!(rt;
-        asked.as_str(),
-        "turned away with 2 at 2000: a name that is asked about has at most 1000 letters"
-    );
-    let again = Fault::Again(7).to_string(heap)?;
-    assert_eq!(rt;
-        again.as_str(),
-        "turned away with 3 at 7: this letter has a line already"
-    );
+    for Said(fault, text) in [
+        Said(
+            Fault::Table(Refusal::Twice(17)),
+            "turned away with 1 at 17: these two letters are a pair already",
+        ),
+        Said(
+            Fault::Table(Refusal::TooMany),
+            "turned away with 1 at 0: a table has at most 200 pairs",
+        ),
+        Said(
+            Fault::Table(Refusal::Foreign(2)),
+            "turned away with 1 at 2: the letters of a pair are at most U+FFFF, and U+00FF where each byte is one",
+        ),
+        Said(
+            Fault::Table(Refusal::TooManyLetters),
+            "turned away with 4 at 2000: a table has at most 2000 letters that weigh something",
+        ),
+        Said(
+            Fault::Table(Refusal::NoLetter(5)),
+            "turned away with 4 at 5: letters are U+0000 to U+FFFF, without U+D800 to U+DFFF",
+        ),
+        Said(
+            Fault::Table(Refusal::LetterTwice(7)),
+            "turned away with 4 at 7: this letter weighs something already",
+        ),
+        Said(
+            Fault::Name(NameRefusal::TooLong(1001)),
+            "turned away with 2 at 1001: a name has at most 1000 letters",
+        ),
+        Said(
+            Fault::Name(NameRefusal::NotUtf8(3)),
+            "turned away with 5 at 3: names are bytes in UTF-8, with letters up to U+FFFF",
+        ),
+        Said(
+            Fault::Question(NameRefusal::TooLong(2000)),
+            "turned away with 2 at 2000: a name that is asked about has at most 1000 letters",
+        ),
+        Said(
+            Fault::Question(NameRefusal::NotUtf8(0)),
+            "turned away with 5 at 0: names are bytes in UTF-8, with letters up to U+FFFF",
+        ),
+        Said(
+            Fault::Text(1),
+            "turned away with 3 at 1: a line that begins so is 'letter X a b c' or 'pair X Y a b c', one space between, letters as themselves or as U+ and four to six hexadecimal digits, weights up to 65535; a name that begins so needs 'name ' in front",
+        ),
+        Said(
+            Fault::Bytes(9),
+            "turned away with 5 at 9: names are bytes in UTF-8, with letters up to U+FFFF",
+        ),
+    ] {
+        let message = fault.to_string(heap)?;
+        assert_eq!(rt; message.as_str(), text);
+    }
     assert_eq!(rt; Fault::Text(0).number(), 3);
     assert_eq!(rt; Fault::Text(9).place(), 9);
+    assert_eq!(rt; Fault::Bytes(0).number(), 5);
+    assert_eq!(rt; Fault::Bytes(7).place(), 7);
     Ok(())
 }
 
@@ -112,7 +188,12 @@ fn numbers(rt: HostRuntime) -> Result<(), Fail> {
 fn changes(rt: HostRuntime) -> Result<(), Fail> {
     let heap = rt.alloc();
     let pair = Piece::Pair(99, 32);
-    let mark = Piece::Letter(252);
+    let mark = Piece::Letter(0x20ac);
+    let reads = Told(Change::Utf8).to_string(heap)?;
+    assert_eq!(rt;
+        reads.as_str(),
+        "names are in UTF-8 under only one of the tables"
+    );
     let together = Told(Change::Joins(pair)).to_string(heap)?;
     assert_eq!(rt;
         together.as_str(),
@@ -121,12 +202,12 @@ fn changes(rt: HostRuntime) -> Result<(), Fail> {
     let counts = Told(Change::Counts(mark, Level::Secondary)).to_string(heap)?;
     assert_eq!(rt;
         counts.as_str(),
-        "U+00FC weighs 0 on level 2 in only one of the tables"
+        "U+20AC weighs 0 on level 2 in only one of the tables"
     );
     let order = Told(Change::Order(mark, pair, Level::Tertiary)).to_string(heap)?;
     assert_eq!(rt;
         order.as_str(),
-        "U+00FC and c U+0020 stand otherwise on level 3"
+        "U+20AC and c U+0020 stand otherwise on level 3"
     );
     Ok(())
 }

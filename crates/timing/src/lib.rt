@@ -1,15 +1,16 @@
-// Jobs to be timed from outside: each does many of one kind, under a table that is checked once, and answers what they come to.
+// Jobs to be timed from outside: each does many of one kind, under a table that is checked once, of bytes or of names in UTF-8, and
+// answers what they come to.
 //
 // A static library, used by bench/ alone. What is not as it should be comes to 0.
 #![tactic(auto)]
 
 ghost use Rattle.std.specs.Prelude.{◌≡◌, ◌-◌, cond, [], is_none, length, ◌&&◌};
 ghost use Rattle.catalogue.specs.Checking.{lists_of};
-ghost use Rattle.catalogue.specs.Entry.{all_right};
 ghost use Rattle.catalogue.specs.Lists.{lists, names_fault};
-ghost use Rattle.timing.specs.Totals.{Listed, are_names, found_at, in_order_at, key_at, numbered, room_after, total, written};
+ghost use Rattle.timing.specs.Totals.{Listed, are_names, lists_right, found_at, in_order_at, key_at, numbered, room_after, total, written};
 ghost use Rattle.table.specs.Meaning.{rules_of};
-ghost use Rattle.table.specs.Rules.{rules_in};
+ghost use Rattle.table.specs.Rules.{rules_by};
+ghost use Rattle.timing.specs.Totals.{TableOf};
 
 use catalogue::{Catalogue, Names};
 use keys::SortKeys;
@@ -23,17 +24,18 @@ pub extern "C" fn timing_keys(
     letters: &[u16],
     pairs: &[u16],
     how_many: u64,
+    utf8: bool,
     text: &[u8],
     starts: &[u32],
     room: &mut [u32],
 ) -> u64
-    ensures numbers { result ≡ cond (are_names letters.now pairs.now how_many text.now starts.now) (total (written (key_at (rules_in letters.now pairs.now how_many) text.now starts.now) room.old) (numbered starts.now)) 0 }
-    ensures room { room.new ≡ cond (are_names letters.now pairs.now how_many text.now starts.now) (room_after (key_at (rules_in letters.now pairs.now how_many) text.now starts.now) room.old (numbered starts.now)) room.old }
+    ensures numbers { result ≡ cond (are_names letters.now pairs.now how_many utf8 text.now starts.now) (total (written (key_at (rules_by utf8 letters.now [] pairs.now how_many) text.now starts.now) room.old) (numbered starts.now)) 0 }
+    ensures room { room.new ≡ cond (are_names letters.now pairs.now how_many utf8 text.now starts.now) (room_after (key_at (rules_by utf8 letters.now [] pairs.now how_many) text.now starts.now) room.old (numbered starts.now)) room.old }
 {
-    let Ok(table) = Table::check(letters, pairs, how_many) else {
+    let Some(table) = table_of(letters, pairs, how_many, utf8) else {
         return 0;
     };
-    let Ok(names) = Names::check(text, starts) else {
+    let Ok(names) = Names::check(&table, text, starts) else {
         return 0;
     };
     keys_of(&table, &names, room)
@@ -61,16 +63,17 @@ pub extern "C" fn timing_compares(
     letters: &[u16],
     pairs: &[u16],
     how_many: u64,
+    utf8: bool,
     text: &[u8],
     starts: &[u32],
     places: &[u32],
 ) -> u64
-    ensures { result ≡ cond (are_names letters.now pairs.now how_many text.now starts.now) (total (in_order_at (lists (rules_in letters.now pairs.now how_many) text.now starts.now places.now)) (length places.now - 1)) 0 }
+    ensures { result ≡ cond (are_names letters.now pairs.now how_many utf8 text.now starts.now) (total (in_order_at (lists (rules_by utf8 letters.now [] pairs.now how_many) text.now starts.now places.now)) (length places.now - 1)) 0 }
 {
-    let Ok(table) = Table::check(letters, pairs, how_many) else {
+    let Some(table) = table_of(letters, pairs, how_many, utf8) else {
         return 0;
     };
-    let Ok(names) = Names::check(text, starts) else {
+    let Ok(names) = Names::check(&table, text, starts) else {
         return 0;
     };
     compares_of(&table, &names, places)
@@ -100,21 +103,22 @@ pub extern "C" fn timing_finds(
     letters: &[u16],
     pairs: &[u16],
     how_many: u64,
+    utf8: bool,
     text: &[u8],
     starts: &[u32],
     places: &[u32],
     asks: &[u8],
     ask_starts: &[u32],
 ) -> u64
-    ensures { result ≡ cond (all_right letters.now pairs.now how_many text.now starts.now places.now [] && is_none (names_fault asks.now ask_starts.now)) (total (found_at (lists (rules_in letters.now pairs.now how_many) text.now starts.now places.now) asks.now ask_starts.now) (numbered ask_starts.now)) 0 }
+    ensures { result ≡ cond (lists_right letters.now pairs.now how_many utf8 text.now starts.now places.now && is_none (names_fault utf8 asks.now ask_starts.now)) (total (found_at (lists (rules_by utf8 letters.now [] pairs.now how_many) text.now starts.now places.now) asks.now ask_starts.now) (numbered ask_starts.now)) 0 }
 {
-    let Ok(table) = Table::check(letters, pairs, how_many) else {
+    let Some(table) = table_of(letters, pairs, how_many, utf8) else {
         return 0;
     };
     let Ok(catalogue) = Catalogue::check(&table, text, starts, places) else {
         return 0;
     };
-    let Ok(questions) = Names::check(asks, ask_starts) else {
+    let Ok(questions) = Names::check(&table, asks, ask_starts) else {
         return 0;
     };
     finds_of(&catalogue, &questions)
@@ -141,16 +145,17 @@ pub extern "C" fn timing_list(
     letters: &[u16],
     pairs: &[u16],
     how_many: u64,
+    utf8: bool,
     text: &[u8],
     starts: &[u32],
     places: &mut [u32],
 ) -> bool
-    ensures { Listed (are_names letters.now pairs.now how_many text.now starts.now) (lists (rules_in letters.now pairs.now how_many) text.now starts.now places.old) places.new result }
+    ensures { Listed (are_names letters.now pairs.now how_many utf8 text.now starts.now) (lists (rules_by utf8 letters.now [] pairs.now how_many) text.now starts.now places.old) places.new result }
 {
-    let Ok(table) = Table::check(letters, pairs, how_many) else {
+    let Some(table) = table_of(letters, pairs, how_many, utf8) else {
         return false;
     };
-    let Ok(names) = Names::check(text, starts) else {
+    let Ok(names) = Names::check(&table, text, starts) else {
         return false;
     };
     let Ok(list) = names.in_order(&table, heap) else {
@@ -161,6 +166,19 @@ pub extern "C" fn timing_list(
     }
     places.copy_from_slice(&list);
     true
+}
+
+// A table that is lent as numbers, of bytes or of names in UTF-8.
+fn table_of<'a>(
+    letters: &'a [u16],
+    pairs: &'a [u16],
+    how_many: u64,
+    utf8: bool,
+) -> Option<Table<'a>>
+    ensures { TableOf letters.now pairs.now how_many utf8 result }
+{
+    let table = Table::check(letters, pairs, how_many).ok()?;
+    Some(if utf8 { table.in_utf8() } else { table })
 }
 
 // How many names there are, as far as 32 bits number them.

@@ -36,18 +36,4 @@ impl Dice {
     pub(crate) fn once_in(&mut self, throws: usize) -> bool {
         self.below(throws) == 0
     }
-
-    // Any letter.
-    pub(crate) fn letter(&mut self) -> u8 {
-        self.below(256) as u8
-    }
-
-    // One of some letters; any letter where there are none.
-    pub(crate) fn letter_of(&mut self, letters: &[u8]) -> u8 {
-        let place = self.below(letters.len());
-        match letters.get(place) {
-            Some(letter) => *letter,
-            None => self.letter(),
-        }
-    }
 }

@@ -2,6 +2,7 @@
 ghost use Rattle.std.specs.Prelude.{◌≡◌, ◌-◌, ◌^◌, min};
 
 use crate::plain::{Name, Plain, begins, compare};
+use crate::reading;
 use catalogue::ListFault;
 use std::alloc::{AllocError, Global};
 use std::fmt;
@@ -76,14 +77,14 @@ impl Lists {
         heap: Global,
         plain: &Plain,
     ) -> Result<Option<ListFault>, AllocError> {
-        match self.starts_fault() {
+        match self.names_fault(plain.utf8) {
             Some(fault) => Ok(Some(fault)),
             None => Ok(self.places_fault(&self.names(heap, plain)?)),
         }
     }
 
     // The same of the text and the starts alone.
-    pub(crate) fn starts_fault(&self) -> Option<ListFault> {
+    pub(crate) fn names_fault(&self, utf8: bool) -> Option<ListFault> {
         let Some(end) = self.starts.last() else {
             return Some(ListFault::NoStart);
         };
@@ -94,16 +95,16 @@ impl Lists {
                 }
             }
         }
-        for (name, two) in self.starts.windows(2).enumerate() {
-            if let [from, to] = two {
-                let letters = to.saturating_sub(*from) as usize;
-                if letters > 1000 {
-                    return Some(ListFault::NameTooLong(name, letters));
-                }
-            }
-        }
         if *end as usize != self.text.len() {
             return Some(ListFault::EndsElsewhere(self.starts.len().saturating_sub(1)));
+        }
+        for (number, two) in self.starts.windows(2).enumerate() {
+            if let [from, to] = two {
+                let name = self.text.get(*from as usize..*to as usize);
+                if let Some(why) = reading::refusal(utf8, name.unwrap_or(b"")) {
+                    return Some(ListFault::NameRefused(number, why));
+                }
+            }
         }
         None
     }
@@ -174,7 +175,7 @@ pub(crate) fn part(
         numbers: Vec::new(heap),
         before: 0,
     };
-    if asked.letters.len() > 1000 {
+    if asked.refusal.is_some() {
         return Ok(part);
     }
     for number in places {

@@ -1,14 +1,19 @@
 // The rules of the order, written down once more over plain numbers. Nothing here asks the library.
 ghost use Rattle.std.specs.Prelude.{◌≡◌, ◌/◌, length};
 
+use crate::reading;
+use keys::NameRefusal;
 use std::alloc::{AllocError, Global};
 use std::cmp::Ordering;
 use std::fmt;
-use table::{Pair, Refusal, Weights};
+use table::{Letter, Pair, Refusal, Weights};
 
 // The numbers of a table, as they are lent; they need not be those of one.
 #[derive(Drop)]
 pub(crate) struct Plain {
+    // Whether names are in UTF-8; else each byte is a letter.
+    pub(crate) utf8: bool,
+    // Three weights for each letter, of 256 or of 65,536.
     pub(crate) letters: Vec<u16>,
     pub(crate) pairs: Vec<u16>,
     pub(crate) how_many: u64,
@@ -16,9 +21,11 @@ pub(crate) struct Plain {
 
 impl Plain {
     // A table in which nothing weighs anything.
-    pub(crate) fn new(heap: Global) -> Result<Plain, AllocError> {
+    pub(crate) fn new(heap: Global, utf8: bool) -> Result<Plain, AllocError> {
+        let numbers = if utf8 { 196608 } else { 768 };
         Ok(Plain {
-            letters: vec![in heap; 0; 768]?,
+            utf8,
+            letters: vec![in heap; 0; numbers]?,
             pairs: Vec::new(heap),
             how_many: 0,
         })
@@ -26,13 +33,14 @@ impl Plain {
 
     pub(crate) fn copy(&self, heap: Global) -> Result<Plain, AllocError> {
         Ok(Plain {
+            utf8: self.utf8,
             letters: self.letters.to_vec(heap)?,
             pairs: self.pairs.to_vec(heap)?,
             how_many: self.how_many,
         })
     }
 
-    pub(crate) fn set_letter(&mut self, letter: u8, weights: [u16; 3]) {
+    pub(crate) fn set_letter(&mut self, letter: u32, weights: [u16; 3]) {
         for (level, weight) in weights.iter().enumerate() {
             if let Some(number) = self.letters.get_mut(3 * letter as usize + level) {
                 *number = *weight;
@@ -42,12 +50,13 @@ impl Plain {
 
     pub(crate) fn push_pair(
         &mut self,
-        first: u16,
-        second: u16,
+        first: u32,
+        second: u32,
         weights: [u16; 3],
     ) -> Result<(), AllocError> {
-        self.pairs.push(first)?;
-        self.pairs.push(second)?;
+        for letter in [first, second] {
+            self.pairs.push(u16::try_from(letter).unwrap_or(u16::MAX))?;
+        }
         self.pairs.extend_from_slice(&weights)?;
         self.how_many = self.how_many.saturating_add(1);
         Ok(())
@@ -66,6 +75,17 @@ impl Plain {
         Ok(())
     }
 
+    // How many letters weigh something.
+    pub(crate) fn letter_count(&self) -> usize {
+        let mut many = 0usize;
+        for weights in self.letters.chunks(3) {
+            if weights.iter().any(|weight| *weight != 0) {
+                many = many.saturating_add(1);
+            }
+        }
+        many
+    }
+
     pub(crate) fn pair_count(&self) -> usize
         ensures { result ≡ length self.now.pairs.items / 5 }
     {
@@ -73,7 +93,7 @@ impl Plain {
     }
 
     // What a letter weighs.
-    pub(crate) fn letter(&self, letter: u8) -> [u16; 3] {
+    pub(crate) fn letter(&self, letter: u32) -> [u16; 3] {
         let at = 3 * letter as usize;
         match self.letters.get(at..at + 3) {
             Some([primary, secondary, tertiary]) => [*primary, *secondary, *tertiary],
@@ -82,10 +102,10 @@ impl Plain {
     }
 
     // What two letters weigh together, where they are one.
-    pub(crate) fn pair(&self, first: u8, second: u8) -> Option<[u16; 3]> {
+    pub(crate) fn pair(&self, first: u32, second: u32) -> Option<[u16; 3]> {
         for pair in self.pairs.chunks_exact(5) {
             if let [one, other, primary, secondary, tertiary] = pair {
-                if *one == first as u16 && *other == second as u16 {
+                if *one as u32 == first && *other as u32 == second {
                     return Some([*primary, *secondary, *tertiary]);
                 }
             }
@@ -97,11 +117,72 @@ impl Plain {
     pub(crate) fn pair_at(&self, place: usize) -> Option<Pair> {
         match self.pairs.chunks_exact(5).nth(place) {
             Some([first, second, primary, secondary, tertiary]) => Some(Pair {
-                first: *first,
-                second: *second,
+                first: u32::from(*first),
+                second: u32::from(*second),
                 weights: Weights::from([*primary, *secondary, *tertiary]),
             }),
             _ => None,
+        }
+    }
+
+    // The letters that a table lists: those below 256, and others that weigh something.
+    pub(crate) fn listed(&self, heap: Global) -> Result<Vec<Letter>, AllocError> {
+        let mut letters = Vec::new(heap);
+        for (letter, numbers) in (0..u32::MAX).zip(self.letters.chunks_exact(3)) {
+            if let [primary, secondary, tertiary] = numbers {
+                let weights = [*primary, *secondary, *tertiary];
+                if letter < 256 || weights != [0; 3] {
+                    letters.push(Letter {
+                        letter,
+                        weights: Weights::from(weights),
+                    })?;
+                }
+            }
+        }
+        Ok(letters)
+    }
+
+    // The pairs, as they lie.
+    pub(crate) fn listed_pairs(&self, heap: Global) -> Result<Vec<Pair>, AllocError> {
+        let mut pairs = Vec::new(heap);
+        for pair in (0..self.pair_count()).filter_map(|place| self.pair_at(place)) {
+            pairs.push(pair)?;
+        }
+        Ok(pairs)
+    }
+
+    // Why a letter can't be one more, where so many weigh something.
+    pub(crate) fn letter_refusal(
+        &self,
+        many: usize,
+        letter: u32,
+        weights: [u16; 3],
+    ) -> Option<Refusal> {
+        if weights == [0; 3] {
+            None
+        } else if many >= 2000 {
+            Some(Refusal::TooManyLetters)
+        } else if !reading::is_letter(self.utf8, letter) {
+            Some(Refusal::NoLetter(many))
+        } else if self.letter(letter) != [0; 3] {
+            Some(Refusal::LetterTwice(many))
+        } else {
+            None
+        }
+    }
+
+    // Why a pair can't be one more.
+    pub(crate) fn pair_refusal(&self, first: u32, second: u32) -> Option<Refusal> {
+        let place = self.pair_count();
+        let last = if self.utf8 { 65535 } else { 255 };
+        if place >= 200 {
+            Some(Refusal::TooMany)
+        } else if first > last || second > last {
+            Some(Refusal::Foreign(place))
+        } else if self.pair(first, second).is_some() {
+            Some(Refusal::Twice(place))
+        } else {
+            None
         }
     }
 
@@ -135,12 +216,13 @@ impl Plain {
     fn pieces(&self, heap: Global, name: &[u8]) -> Result<Vec<[u16; 3]>, AllocError> {
         let mut pieces = Vec::new(heap);
         let mut taken = false;
-        for (place, letter) in name.iter().enumerate() {
+        let letters = reading::letters(heap, self.utf8, name)?;
+        for (place, letter) in letters.iter().enumerate() {
             if taken {
                 taken = false;
                 continue;
             }
-            let together = match name.get(place + 1) {
+            let together = match letters.get(place + 1) {
                 Some(next) => self.pair(*letter, *next),
                 None => None,
             };
@@ -160,7 +242,8 @@ impl Plain {
             key.extend_from_slice(&self::row(heap, &pieces, level)?)?;
         }
         Ok(Name {
-            letters: name.to_vec(heap)?,
+            bytes: name.to_vec(heap)?,
+            refusal: reading::refusal(self.utf8, name),
             key,
             row,
         })
@@ -201,7 +284,9 @@ impl fmt::Display for Plain {
 // A name as it was read under a table.
 #[derive(Drop)]
 pub(crate) struct Name {
-    pub(crate) letters: Vec<u8>,
+    pub(crate) bytes: Vec<u8>,
+    // Why it is no name, where it is none.
+    pub(crate) refusal: Option<NameRefusal>,
     pub(crate) key: Vec<u32>,
     pub(crate) row: Vec<u32>,
 }

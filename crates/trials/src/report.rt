@@ -15,6 +15,7 @@ pub(crate) enum Kind {
     Keys,
     KeysWithoutFirst,
     KeysTooLong,
+    KeysUnread,
     RoomsWritten,
     RoomsShort,
     EntryKeyed,
@@ -35,21 +36,29 @@ pub(crate) enum Kind {
     QuestionsSome,
     QuestionsAll,
     QuestionsTooLong,
+    QuestionsUnread,
     NamesFound,
     EntryAsked,
     Pushed,
     PushedTooLong,
+    PushedUnread,
     PairsAdded,
     PairsTwice,
     PairsForeign,
     PairsTooMany,
-    LettersSet,
+    LettersAdded,
+    LettersTwice,
+    LettersForeign,
+    LettersTooMany,
     TablesSet,
+    TablesTurned,
+    TablesNotSet,
     Grown,
     NewerKeeps,
     NewerJoins,
     NewerCounts,
     NewerOrders,
+    NewerReads,
     Kept,
     TablesUnharmed,
     NoTableLetters,
@@ -57,17 +66,23 @@ pub(crate) enum Kind {
     NoTableTooMany,
     NoTableForeign,
     NoTableTwice,
+    NoTableTooManyLetters,
+    NoTableNoLetter,
+    NoTableLetterTwice,
     ListsUnharmed,
     NoListStart,
     NoListFalls,
     NoListTooLong,
+    NoListUnread,
     NoListEnd,
     NoListName,
     NoListOrder,
+    Widened,
+    WidenedAscii,
 }
 
 // As many as there are.
-const KINDS: usize = 58;
+const KINDS: usize = 73;
 
 // What each kind is called, in the order in which they are written.
 static CALLED: [(Kind, &str); KINDS] = [
@@ -83,6 +98,7 @@ static CALLED: [(Kind, &str); KINDS] = [
         "of them with no weight on level one",
     ),
     (Kind::KeysTooLong, "of them of names with 1,001 letters"),
+    (Kind::KeysUnread, "of them of names not in UTF-8"),
     (Kind::RoomsWritten, "rooms of 32 bits written"),
     (Kind::RoomsShort, "rooms of 32 bits too short"),
     (Kind::EntryKeyed, "keys by the entry"),
@@ -103,24 +119,38 @@ static CALLED: [(Kind, &str); KINDS] = [
     (Kind::QuestionsSome, "questions that find some of a list"),
     (Kind::QuestionsAll, "questions that find a whole list"),
     (Kind::QuestionsTooLong, "questions with too many letters"),
+    (Kind::QuestionsUnread, "questions not in UTF-8"),
     (Kind::NamesFound, "names found"),
     (Kind::EntryAsked, "questions to the entry"),
     (Kind::Pushed, "names pushed"),
     (Kind::PushedTooLong, "names not taken, too long"),
+    (Kind::PushedUnread, "names not taken, not in UTF-8"),
     (Kind::PairsAdded, "pairs added"),
     (Kind::PairsTwice, "pairs not taken, there already"),
     (
         Kind::PairsForeign,
-        "pairs not taken, with a letter above 255",
+        "pairs not taken, with a letter that is too large",
     ),
     (Kind::PairsTooMany, "pairs not taken, too many"),
-    (Kind::LettersSet, "letters set"),
+    (Kind::LettersAdded, "letters added"),
+    (Kind::LettersTwice, "letters not taken, there already"),
+    (Kind::LettersForeign, "letters not taken, none of the table"),
+    (Kind::LettersTooMany, "letters not taken, too many"),
     (Kind::TablesSet, "tables replaced"),
+    (
+        Kind::TablesTurned,
+        "tables replaced by such as read otherwise",
+    ),
+    (
+        Kind::TablesNotSet,
+        "tables not taken for the names there are",
+    ),
     (Kind::Grown, "times grown names put in order"),
     (Kind::NewerKeeps, "newer tables that keep the order"),
     (Kind::NewerJoins, "newer tables with other pairs"),
     (Kind::NewerCounts, "newer tables with other zeros"),
     (Kind::NewerOrders, "newer tables that turn pieces"),
+    (Kind::NewerReads, "newer tables that read otherwise"),
     (Kind::Kept, "times two names stand as before"),
     (Kind::TablesUnharmed, "damaged tables that still are tables"),
     (Kind::NoTableLetters, "tables turned away for their letters"),
@@ -131,11 +161,23 @@ static CALLED: [(Kind, &str); KINDS] = [
     ),
     (
         Kind::NoTableForeign,
-        "tables turned away for a letter above 255",
+        "tables turned away for a letter that is too large",
     ),
     (
         Kind::NoTableTwice,
         "tables turned away for a pair there twice",
+    ),
+    (
+        Kind::NoTableTooManyLetters,
+        "tables turned away for too many letters",
+    ),
+    (
+        Kind::NoTableNoLetter,
+        "tables turned away for what is no letter",
+    ),
+    (
+        Kind::NoTableLetterTwice,
+        "tables turned away for a letter there twice",
     ),
     (Kind::ListsUnharmed, "damaged lists that still are lists"),
     (Kind::NoListStart, "lists turned away without a start"),
@@ -144,12 +186,18 @@ static CALLED: [(Kind, &str); KINDS] = [
         "lists turned away for a start that falls",
     ),
     (Kind::NoListTooLong, "lists turned away for a name too long"),
+    (
+        Kind::NoListUnread,
+        "lists turned away for a name not in UTF-8",
+    ),
     (Kind::NoListEnd, "lists turned away for another end"),
     (
         Kind::NoListName,
         "lists turned away for a number of no name",
     ),
     (Kind::NoListOrder, "lists turned away out of order"),
+    (Kind::Widened, "names with the same key in UTF-8"),
+    (Kind::WidenedAscii, "of them of ASCII letters"),
 ];
 
 #[derive(Drop)]
@@ -157,7 +205,10 @@ pub(crate) struct Report {
     heap: Global,
     // The trial that is run, by which it can be run again.
     pub(crate) trial: u64,
-    counts: [u64; KINDS],
+    // Whether its names are in UTF-8.
+    pub(crate) utf8: bool,
+    bytes: [u64; KINDS],
+    wide: [u64; KINDS],
     differences: u64,
     // The first few of them.
     told: Vec<String>,
@@ -171,7 +222,9 @@ impl Report {
         Report {
             heap,
             trial: 0,
-            counts: [0; KINDS],
+            utf8: false,
+            bytes: [0; KINDS],
+            wide: [0; KINDS],
             differences: 0,
             told: Vec::new(heap),
         }
@@ -182,7 +235,12 @@ impl Report {
     }
 
     pub(crate) fn add(&mut self, kind: Kind, more: usize) {
-        if let Some(count) = self.counts.get_mut(kind as usize) {
+        let counts = if self.utf8 {
+            &mut self.wide
+        } else {
+            &mut self.bytes
+        };
+        if let Some(count) = counts.get_mut(kind as usize) {
             *count = count.saturating_add(more as u64);
         }
     }
@@ -206,9 +264,11 @@ impl Report {
 
 impl fmt::Display for Report {
     fn fmt<W: fmt::Write>(&self, f: &mut fmt::Formatter<W>) -> fmt::Result {
+        writeln!(f, "    bytes     UTF-8")?;
         for (kind, called) in &CALLED {
-            let count = self.counts.get(*kind as usize).copied().unwrap_or(0);
-            writeln!(f, "{count:>9} {called}")?;
+            let bytes = self.bytes.get(*kind as usize).copied().unwrap_or(0);
+            let wide = self.wide.get(*kind as usize).copied().unwrap_or(0);
+            writeln!(f, "{bytes:>9} {wide:>9} {called}")?;
         }
         for told in &self.told {
             writeln!(f, "{told}")?;

@@ -1,10 +1,11 @@
 // One trial: a table, and all that is tried under it.
+use crate::alphabet::Alphabet;
 use crate::dice::Dice;
 use crate::drawn::Drawn;
 use crate::plain::Plain;
 use crate::report::Report;
 use std::alloc::{AllocError, Global};
-use table::Table;
+use table::{AddError, Table, TableBuf};
 
 mod comparing;
 mod damaging;
@@ -13,17 +14,20 @@ mod growing;
 mod keying;
 mod listing;
 mod looking;
+mod recording;
 mod renewing;
 mod spoiling;
+mod widening;
 
 // A table in plain numbers and as the library has it, and the letters that names are mostly made of.
 #[derive(Clone, Copy)]
 pub(crate) struct Both<'a> {
     pub(crate) plain: &'a Plain,
     pub(crate) table: Table<'a>,
-    pub(crate) alphabet: &'a [u8],
+    pub(crate) alphabet: &'a Alphabet,
 }
 
+// A trial of names that are bytes.
 pub(crate) fn run(heap: Global, number: u64, report: &mut Report) -> Result<(), AllocError> {
     let mut dice = Dice::new(number);
     let drawn = Drawn::new(heap, &mut dice)?;
@@ -35,10 +39,45 @@ pub(crate) fn run(heap: Global, number: u64, report: &mut Report) -> Result<(), 
                 table,
                 alphabet: &drawn.alphabet,
             };
-            run_under(heap, &mut dice, &both, report)
+            run_under(heap, &mut dice, &both, report)?;
+            damaging::run(heap, &mut dice, &both, report)?;
+            spoiling::run(heap, &mut dice, &both, report)?;
+            widening::run(heap, &mut dice, &both, report)
         }
         Err(why) => report.differ(plain, format!(in heap; "a table is turned away: {why:?}")?),
     }
+}
+
+// A trial of names in UTF-8.
+pub(crate) fn run_in_utf8(
+    heap: Global,
+    number: u64,
+    report: &mut Report,
+) -> Result<(), AllocError> {
+    let mut dice = Dice::new(number);
+    let drawn = Drawn::in_utf8(heap, &mut dice)?;
+    let plain = &drawn.plain;
+    match made(heap, plain) {
+        Ok(own) => run_wide(heap, &mut dice, &drawn, &own, report),
+        Err(why) => report.differ(plain, format!(in heap; "a table is not made: {why:?}")?),
+    }
+}
+
+fn run_wide(
+    heap: Global,
+    dice: &mut Dice,
+    drawn: &Drawn,
+    own: &TableBuf,
+    report: &mut Report,
+) -> Result<(), AllocError> {
+    let both = Both {
+        plain: &drawn.plain,
+        table: own.table(),
+        alphabet: &drawn.alphabet,
+    };
+    run_under(heap, dice, &both, report)?;
+    recording::run(heap, dice, &both, report)?;
+    spoiling::run(heap, dice, &both, report)
 }
 
 fn run_under(
@@ -52,7 +91,13 @@ fn run_under(
     comparing::run(heap, dice, both, report)?;
     listing::run(heap, dice, both, report)?;
     growing::run(heap, dice, both, report)?;
-    renewing::run(heap, dice, both, report)?;
-    damaging::run(heap, dice, both, report)?;
-    spoiling::run(heap, dice, both, report)
+    renewing::run(heap, dice, both, report)
+}
+
+// The library's table of plain numbers, all at once.
+fn made(heap: Global, plain: &Plain) -> Result<TableBuf, AddError> {
+    if plain.utf8 {
+        return TableBuf::of(&plain.listed(heap)?, &plain.listed_pairs(heap)?, heap);
+    }
+    Ok(Table::check(&plain.letters, &plain.pairs, plain.how_many)?.to_buf(heap)?)
 }

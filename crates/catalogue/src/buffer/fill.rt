@@ -1,17 +1,18 @@
 // Filling a catalogue.
-ghost use Rattle.std.specs.Prelude.{[], ◌≡◌, ◌+◌, ◌^◌, ◌<◌, ◌≤◌, IfOk, false, length};
+ghost use Rattle.std.specs.Prelude.{[], ◌≡◌, ◌+◌, ◌^◌, ◌<◌, IfOk, None, false, length};
 ghost use Rattle.table.specs.Buffer.{buffer_pairs, buffer_rules};
 ghost use Rattle.table.specs.Meaning.{pairs_of, rules_of};
-ghost use Rattle.table.specs.Rules.{with_letter};
+ghost use Rattle.keys.specs.Refusals.{name_refusal};
 
 use crate::buffer::CatalogueBuf;
-use crate::fault::{NotTaken, PushError};
+use crate::fault::{ListFault, NotTaken, PushError};
+use crate::names::Names;
 use keys::NameRefusal;
 use std::alloc::{AllocError, Global};
-use table::{AddError, Pair, Table, TableBuf, Weights};
+use table::{AddError, Letter, Pair, Table, TableBuf};
 
 impl CatalogueBuf {
-    ghost use Rattle.catalogue.specs.Filling.{Appended, Empty, LetterSet, PairAdded, Pushed, TableSet};
+    ghost use Rattle.catalogue.specs.Filling.{Appended, Empty, LetterPut, PairAdded, Pushed, TablePut};
 
     // As many names, and as many letters of all names together, as 32 bits can count.
     pub const MAX: usize = u32::MAX as usize;
@@ -37,7 +38,7 @@ impl CatalogueBuf {
     pub fn push(&mut self, name: &[u8]) -> Result<(), PushError>
         ensures { Pushed self.old name.now result self.new }
     {
-        if let Some(why) = NameRefusal::of(name) {
+        if let Some(why) = NameRefusal::of(self.table.utf8(), name) {
             return Err(PushError::Refused(NotTaken::Name(why)));
         }
         let end = self.text.len() + name.len();
@@ -50,7 +51,7 @@ impl CatalogueBuf {
     // The same, where the name may be taken: all names together end there then. Room for the start is asked for first, so that
     // no name is half taken; the list is let go of last, so that it is kept where memory is wanting.
     fn append(&mut self, name: &[u8], end: u32) -> Result<(), AllocError>
-        requires long { length name.now ≤ 1000 }
+        requires name { name_refusal (buffer_rules self.old.table).utf8 name.now ≡ None }
         requires end { end ≡ length self.old.text.items + length name.now }
         requires few { length self.old.starts.items < 2 ^ 32 }
         ensures { Appended self.old name.now result self.new }
@@ -70,22 +71,28 @@ impl CatalogueBuf {
         self.table.table()
     }
 
-    // Another table in place of this one.
+    // Another table in place of this one, if the names are names under it too, which they are where both read bytes the same way;
+    // else what is wrong with them.
     #[tactic(auto, using(crate::proofs::Listing::none_listed, crate::proofs::Listing::not_whole))]
-    pub fn set_table(&mut self, table: TableBuf)
-        ensures { TableSet self.old table self.new }
+    pub fn set_table(&mut self, table: TableBuf) -> Result<(), ListFault>
+        ensures { TablePut self.old table result self.new }
     {
+        if table.utf8() != self.table.utf8() {
+            Names::check(&table.table(), &self.text, &self.starts)?;
+        }
         let_go(&mut self.places, &mut self.arranged);
         self.table = table;
+        Ok(())
     }
 
-    // The weights of a letter, in place of those that it had.
+    // One letter more. One that is turned away changes nothing; where memory is wanting the list is kept too.
     #[tactic(auto, using(crate::proofs::Listing::none_listed, crate::proofs::Listing::not_whole))]
-    pub fn set_letter(&mut self, letter: u8, weights: Weights)
-        ensures { LetterSet self.old letter weights self.new }
+    pub fn add_letter(&mut self, entry: Letter) -> Result<(), AddError>
+        ensures { LetterPut self.old entry result self.new }
     {
+        self.table.add_letter(entry)?;
         let_go(&mut self.places, &mut self.arranged);
-        self.table.set_letter(letter, weights);
+        Ok(())
     }
 
     // One pair more. One that is turned away changes nothing; where memory is wanting the list is kept too.

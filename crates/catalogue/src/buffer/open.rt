@@ -1,5 +1,6 @@
 // All names of a catalogue in order.
 ghost use Rattle.std.specs.Prelude.{◌≡◌};
+ghost use Rattle.table.specs.Buffer.{buffer_rules};
 
 use crate::buffer::CatalogueBuf;
 use crate::names::Names;
@@ -11,9 +12,9 @@ impl CatalogueBuf {
 
     // All names, in the order in which they came.
     pub fn names(&self) -> Names<'_>
-        ensures { (result.text.now ≡ self.now.text.items) × (result.starts.now ≡ self.now.starts.items) }
+        ensures { (result.utf8 ≡ (buffer_rules self.now.table).utf8) × (result.text.now ≡ self.now.text.items) × (result.starts.now ≡ self.now.starts.items) }
     {
-        Names::new(&self.text, &self.starts)
+        Names::new(self.table.utf8(), &self.text, &self.starts)
     }
 
     // All names are put in order under the table, where they are not yet.

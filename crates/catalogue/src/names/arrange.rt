@@ -5,7 +5,7 @@ ghost use Rattle.keys.specs.Rows.{key};
 
 use crate::fault::{OrderError, TooMany};
 use crate::names::Names;
-use keys::SortKeys;
+use keys::{KeyNumbers, SortKeys};
 use std::alloc::{AllocError, Global};
 use table::Table;
 
@@ -91,19 +91,29 @@ impl Names<'_> {
     }
 }
 
-// A name's key, put behind the others by way of room that is long enough for every key.
-#[tactic(auto, using(keys::proofs::Bounding::key_few))]
+// A name's key, put behind the others: by way of room that is long enough for every key of a name that is taken, and number by
+// number where it is longer.
 fn push_key(
     table: &Table,
     name: &[u8],
     room: &mut [u32; 3002],
     numbers: &mut Vec<u32>,
 ) -> Result<(), AllocError>
-    requires { length name.now ≤ 1000 }
     ensures { IfOk result (λ x. numbers.new.items ≡ numbers.old.items ++ key (rules_of table.now) name.now) }
 {
-    if let Ok(written) = table.write_key(name, room) {
-        numbers.extend_from_slice(&room[..written])?;
+    match table.write_key(name, room) {
+        Ok(written) => numbers.extend_from_slice(&room[..written])?,
+        Err(_) => push_long_key(table, name, numbers)?,
+    }
+    Ok(())
+}
+
+// The same, number by number.
+fn push_long_key(table: &Table, name: &[u8], numbers: &mut Vec<u32>) -> Result<(), AllocError>
+    ensures { IfOk result (λ x. numbers.new.items ≡ numbers.old.items ++ key (rules_of table.now) name.now) }
+{
+    for number in KeyNumbers::new(table, name) {
+        numbers.push(number)?;
     }
     Ok(())
 }

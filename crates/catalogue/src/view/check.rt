@@ -22,7 +22,7 @@ impl<'a> Catalogue<'a> {
     ) -> Result<Catalogue<'a>, ListFault>
         ensures { ListsChecked table.now text.now starts.now places.now result }
     {
-        let names = Names::check(text, starts)?;
+        let names = Names::check(table, text, starts)?;
         if let Some(place) = first_unknown(&names, places) {
             return Err(ListFault::NoSuchName(place));
         }
@@ -39,7 +39,7 @@ impl<'a> Catalogue<'a> {
         starts: &'a [u32],
         places: &'a [u32],
     ) -> Catalogue<'a>
-        requires sound { names_fault text.now starts.now ≡ None }
+        requires sound { names_fault (rules_of table).utf8 text.now starts.now ≡ None }
         requires listed { places_fault (lists (rules_of table) text.now starts.now places.now) ≡ None }
         ensures { (result.table ≡ table.entry) × (result.text ≡ text.entry) × (result.starts ≡ starts.entry) × (result.places ≡ places.entry) }
     {

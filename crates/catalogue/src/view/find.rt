@@ -11,11 +11,11 @@ use order::{Asked, Standing};
 use std::ops::Range;
 
 impl<'a> Catalogue<'a> {
-    // The part of the list whose names begin as asked; a part of none where what is asked has more than 1,000 letters.
+    // The part of the list whose names begin as asked; a part of none where what is asked is no name.
     #[tactic(auto, using(crate::proofs::Cutting::part_at, crate::proofs::Cutting::through))]
     pub fn find(&self, ask: &[u8]) -> &'a [u32]
-        ensures part { Found (may_ask ask.now) (lists_of self.now) ask.now result.now }
-        ensures looked_through { result.now ≡ looked_through (may_ask ask.now) (lists_of self.now) ask.now }
+        ensures part { Found (may_ask (lists_of self.now) ask.now) (lists_of self.now) ask.now result.now }
+        ensures looked_through { result.now ≡ looked_through (may_ask (lists_of self.now) ask.now) (lists_of self.now) ask.now }
     {
         let range = self.range(ask);
         &self.places[range.start..range.end]
@@ -24,25 +24,24 @@ impl<'a> Catalogue<'a> {
     // How long this part is.
     #[tactic(auto, using(crate::proofs::Cutting::through))]
     pub fn count(&self, ask: &[u8]) -> usize
-        ensures { result ≡ length (looked_through (may_ask ask.now) (lists_of self.now) ask.now) }
+        ensures { result ≡ length (looked_through (may_ask (lists_of self.now) ask.now) (lists_of self.now) ask.now) }
     {
         self.find(ask).len()
     }
 
     // The first n of this part, or all of it where it has not more.
     pub fn first(&self, ask: &[u8], n: usize) -> &'a [u32]
-        ensures { result.now ≡ take n (looked_through (may_ask ask.now) (lists_of self.now) ask.now) }
+        ensures { result.now ≡ take n (looked_through (may_ask (lists_of self.now) ask.now) (lists_of self.now) ask.now) }
     {
         let part = self.find(ask);
         &part[..part.len().min(n)]
     }
 
-    // Where this part is in the list, or would be if there is none; from 0 up to 0 where what is asked has more than 1,000
-    // letters.
+    // Where this part is in the list, or would be if there is none; from 0 up to 0 where what is asked is no name.
     pub fn range(&self, ask: &[u8]) -> Range<usize>
-        ensures { FoundAt (may_ask ask.now) (lists_of self.now) ask.now result.start result.end }
+        ensures { FoundAt (may_ask (lists_of self.now) ask.now) (lists_of self.now) ask.now result.start result.end }
     {
-        if NameRefusal::of(ask).is_some() {
+        if NameRefusal::of(self.table.utf8(), ask).is_some() {
             return 0..0;
         }
         let asked = Asked::new(&self.table, ask);

@@ -65,7 +65,7 @@ impl Default for NamesFound<'_> {
     #[tactic(auto, using(crate::proofs::Listing::none_sound))]
     fn default() -> Self {
         NamesFound {
-            names: Names::new(&[], &NO_NAMES),
+            names: Names::new(false, &[], &NO_NAMES),
             numbers: &[],
         }
     }
@@ -80,7 +80,7 @@ impl<'a> Catalogue<'a> {
 
     // The names that begin so, in the order of the list.
     pub fn found(&self, ask: &[u8]) -> NamesFound<'a>
-        ensures { names_left result ≡ map (name_of self.now.text.now self.now.starts.now) (looked_through (may_ask ask.now) (lists_of self.now) ask.now) }
+        ensures { names_left result ≡ map (name_of self.now.text.now self.now.starts.now) (looked_through (may_ask (lists_of self.now) ask.now) (lists_of self.now) ask.now) }
     {
         NamesFound {
             names: self.names(),

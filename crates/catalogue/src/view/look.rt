@@ -2,6 +2,7 @@
 ghost use Rattle.std.specs.Prelude.{◌≡◌, ◌<◌, length};
 ghost use Rattle.catalogue.specs.Checking.{NameAt, lists_of};
 ghost use Rattle.catalogue.specs.Lists.{name_at};
+ghost use Rattle.table.specs.Meaning.{rules_of};
 
 use crate::names::Names;
 use crate::view::Catalogue;
@@ -16,9 +17,9 @@ impl<'a> Catalogue<'a> {
 
     // Its names by their numbers, those that are not in the list too.
     pub fn names(&self) -> Names<'a>
-        ensures { (result.text ≡ self.now.text) × (result.starts ≡ self.now.starts) }
+        ensures { (result.utf8 ≡ (rules_of self.now.table).utf8) × (result.text ≡ self.now.text) × (result.starts ≡ self.now.starts) }
     {
-        Names::new(self.text, self.starts)
+        Names::new(self.table.utf8(), self.text, self.starts)
     }
 
     // The name at a place of the list, if there is one. It is a part of the text, not a copy.

@@ -1,10 +1,11 @@
 // Taking a line, and what may be asked then.
-ghost use Rattle.std.specs.Prelude.{◌≡◌, false, IfOk};
+ghost use Rattle.std.specs.Prelude.{◌≡◌, false, IfOk, slice_set, true};
 ghost use Rattle.catalogue.specs.Filling.{held_rules};
 ghost use Rattle.catalogue.specs.Naming.{names_left};
-ghost use Rattle.nullahbowl.specs.Sessions.{Fresh, IsListed, Joined, Prepared, Settled, Taken, Weighed, found_names, session_letters};
-ghost use Rattle.table.specs.Buffer.{buffer_pairs};
+ghost use Rattle.nullahbowl.specs.Sessions.{Begun, Fresh, IsListed, Joined, Prepared, Settled, Taken, Weighed, found_names, session_letters};
+ghost use Rattle.table.specs.Buffer.{buffer_pairs, buffer_rules};
 ghost use Rattle.table.specs.Meaning.{pairs_of, rules_of};
+ghost use Rattle.table.specs.Rules.{in_utf8};
 ghost use Rattle.table.specs.Valley.{valley};
 ghost use Rattle.texts.specs.Lines.{meaning_of};
 ghost use Rattle.texts.specs.Parts.{without_return};
@@ -14,20 +15,22 @@ use crate::session::Session;
 use catalogue::{CatalogueBuf, NamesFound};
 use keys::{NameRefusal, SortKeys};
 use std::alloc::{AllocError, Global};
-use table::{Pair, Refusal, Table, TableBuf, Weights};
+use table::{Letter, Pair, Refusal, Table, TableBuf};
 use texts::{Command, Entry, Fault, Line, without_return};
+
+// How many numbers a letter may have.
+const LETTERS: usize = 65_536;
 
 impl Session {
     // Nothing has been taken yet.
     pub fn new(heap: Global) -> Result<Session, AllocError>
         ensures { IfOk result (λ s. Fresh s) }
     {
-        let valley = Table::valley().to_buf(heap)?;
+        let valley = Table::valley().in_utf8().to_buf(heap)?;
         Ok(Session {
             book: CatalogueBuf::new(valley, heap)?,
             own: false,
-            weighed: [false; 256],
-            named: [false; 256],
+            named: [true; LETTERS],
         })
     }
 
@@ -35,16 +38,16 @@ impl Session {
     pub fn table(&self) -> Table<'_>
         ensures rules { rules_of result ≡ held_rules self.now.book }
         ensures pairs { pairs_of result ≡ buffer_pairs self.now.book.table }
-        ensures valleys { self.now.own ≡ false → rules_of result ≡ valley }
+        ensures valleys { self.now.own ≡ false → rules_of result ≡ in_utf8 valley }
     {
         self.book.table()
     }
 
     // The letters that the lines of the table name; all, where it is the valley's.
-    pub fn letters(&self) -> [bool; 256]
-        ensures { result ≡ session_letters self.now }
+    pub fn letters(&self) -> &[bool]
+        ensures { result.now ≡ session_letters self.now }
     {
-        if self.own { self.named } else { [true; 256] }
+        &self.named
     }
 
     // The names that begin so, in order; none where a name has come or the table has changed since all were put in order.
@@ -77,8 +80,9 @@ impl Session {
         match Line::read(without_return(line)) {
             Line::Blank => Ok(Answer::Nothing),
             Line::Unreadable => Err(TakeError::Refused(Fault::Text(place))),
-            Line::Says(Command::Enter(Entry::Letter(letter, weights))) => {
-                self.weigh(heap, letter, weights, place)?;
+            Line::NotUtf8(byte) => Err(TakeError::Refused(Fault::Bytes(byte))),
+            Line::Says(Command::Enter(Entry::Letter(entry))) => {
+                self.weigh(heap, entry)?;
                 Ok(Answer::Nothing)
             }
             Line::Says(Command::Enter(Entry::Pair(pair))) => {
@@ -97,60 +101,64 @@ impl Session {
         }
     }
 
-    // A letter that has no line yet weighs so.
-    fn weigh(
-        &mut self,
-        heap: Global,
-        letter: u8,
-        weights: Weights,
-        place: usize,
-    ) -> Result<(), TakeError>
-        ensures { Weighed self.old letter weights place result self.new }
+    // One letter more. What is turned away changes nothing.
+    fn weigh(&mut self, heap: Global, entry: Letter) -> Result<(), TakeError>
+        ensures { Weighed self.old entry result self.new }
     {
-        if self.weighed[letter as usize] {
-            return Err(TakeError::Refused(Fault::Again(place)));
-        }
         if self.own {
-            self.book.set_letter(letter, weights);
+            self.book.add_letter(entry)?;
         } else {
-            let mut table = TableBuf::new(heap)?;
-            table.set_letter(letter, weights);
-            self.book.set_table(table);
-            self.own = true;
+            let mut table = TableBuf::in_utf8(heap)?;
+            table.add_letter(entry)?;
+            self.begin(table);
         }
-        self.weighed[letter as usize] = true;
-        self.named[letter as usize] = true;
+        mark(&mut self.named, entry.letter);
         Ok(())
     }
 
-    // One pair more.
+    // One pair more. What is turned away changes nothing.
     fn join(&mut self, heap: Global, pair: Pair) -> Result<(), TakeError>
         ensures { Joined self.old pair result self.new }
     {
         if self.own {
             self.book.add_pair(pair)?;
         } else {
-            // All that can be wrong with a first pair, said before memory is asked for.
-            if pair.first > 255 || pair.second > 255 {
-                return Err(TakeError::Refused(Fault::Table(Refusal::Foreign(0))));
-            }
-            let mut table = TableBuf::new(heap)?;
+            let mut table = TableBuf::in_utf8(heap)?;
             table.add_pair(pair)?;
-            self.book.set_table(table);
-            self.own = true;
+            self.begin(table);
         }
-        self.named[pair.first as usize] = true;
-        self.named[pair.second as usize] = true;
+        mark(&mut self.named, pair.first);
+        mark(&mut self.named, pair.second);
         Ok(())
+    }
+
+    // The first line of a table has been taken: the table is that of the lines, and no letter is named yet.
+    fn begin(&mut self, table: TableBuf)
+        requires { (buffer_rules table).utf8 ≡ true }
+        ensures { Begun self.old table self.new }
+    {
+        self.book.set_table(table).unwrap();
+        self.own = true;
+        self.named = [false; LETTERS];
     }
 
     // The names are in order, if what is asked may be asked.
     fn prepare(&mut self, heap: Global, ask: &[u8]) -> Result<(), TakeError>
         ensures { Prepared self.old ask.now result self.new }
     {
-        if let Some(why) = NameRefusal::of(ask) {
+        if let Some(why) = NameRefusal::of(true, ask) {
             return Err(TakeError::Refused(Fault::Question(why)));
         }
         Ok(self.put_in_order(heap)?)
+    }
+}
+
+// A letter is named; what is none is not.
+fn mark(named: &mut [bool], letter: u32)
+    ensures { named.new ≡ slice_set named.old letter true }
+{
+    let letter = letter as usize;
+    if letter < named.len() {
+        named[letter] = true;
     }
 }

@@ -15,7 +15,9 @@ impl Table<'_> {
     {
         Ok(TableBuf {
             letters: self.letters.to_vec(heap)?,
+            others: self.others.to_vec(heap)?,
             pairs: self.pairs.numbers().to_vec(heap)?,
+            utf8: self.utf8,
         })
     }
 }

@@ -1,9 +1,9 @@
 // Chaining pairs.
-ghost use Rattle.std.specs.Prelude.{◌≡◌, ◌+◌, ◌*◌, ◌/◌, ◌<◌, ◌≤◌, false, length, None};
+ghost use Rattle.std.specs.Prelude.{◌≡◌, ◌+◌, ◌*◌, ◌/◌, ◌<◌, ◌≤◌, false, length};
 ghost use Rattle.table.specs.Meaning.{AllChained, AreChained};
 ghost use Rattle.table.specs.Chain.{bucket, bucket_at};
 ghost use Rattle.table.specs.Numbers.{first_at};
-ghost use Rattle.table.specs.Refusals.{first_place, foreign, repeated};
+ghost use Rattle.table.specs.Refusals.{repeated};
 
 use crate::fault::Refusal;
 use crate::pairs::Pairs;
@@ -27,13 +27,11 @@ impl<'a> Pairs<'a> {
     pub(crate) fn chain(&mut self) -> Result<(), Refusal>
         requires none { self.old.count ≡ 0 }
         requires few { length self.old.numbers.now / 5 ≤ 200 }
-        requires known { first_place (foreign self.old.numbers.now) (length self.old.numbers.now / 5) ≡ None }
         ensures { AllChained self.old.numbers.now result self.new }
     {
         for (place, pair) in self.numbers.chunks_exact(5).enumerate() {
-            // All letters were looked through before, so that the casts lose nothing.
-            let first = pair[0] as u8;
-            let second = pair[1] as u8;
+            let first = pair[0] as u32;
+            let second = pair[1] as u32;
             if self.locate(first, second).is_some() {
                 return Err(Refusal::Twice(place));
             }
@@ -43,17 +41,16 @@ impl<'a> Pairs<'a> {
     }
 
     // The next pair is chained, in front of those that are in the same bucket.
-    fn link(&mut self, first: u8, second: u8)
+    fn link(&mut self, first: u32, second: u32)
         requires within { 5 * self.old.count + 5 ≤ length self.old.numbers.now }
         requires few { self.old.count < 200 }
         requires first { first_at self.old.numbers.now self.old.count ≡ first }
         requires bucket { bucket_at self.old.numbers.now self.old.count ≡ bucket first second }
-        requires known { foreign self.old.numbers.now self.old.count ≡ false }
         requires apart { repeated self.old.numbers.now self.old.count ≡ false }
         ensures { AreChained self.old.numbers.now (self.old.count + 1) self.new }
     {
         let bucket = bucket(first, second) as usize;
-        self.begins[first as usize] = true;
+        self.begins[(first % 256) as usize] = true;
         self.links[self.count] = self.heads[bucket];
         self.heads[bucket] = Some(self.count as u8);
         self.count += 1;

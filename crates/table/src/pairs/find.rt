@@ -1,8 +1,8 @@
 // Finding pairs.
-ghost use Rattle.std.specs.Prelude.{◌≡◌, ◌+◌, ◌*◌, ◌<◌, IfSome};
+ghost use Rattle.std.specs.Prelude.{◌≡◌, ◌+◌, ◌*◌, ◌%◌, ◌<◌, IfSome};
 ghost use Rattle.std.specs.List.{slice_get};
 ghost use Rattle.std.specs.Option.{option_map};
-ghost use Rattle.table.specs.Chain.{bucket};
+ghost use Rattle.table.specs.Chain.{begun, bucket};
 ghost use Rattle.table.specs.Numbers.{is_pair, pairs_in, place_in, weights_at};
 
 use crate::layout::{read_pair, weights_at};
@@ -34,19 +34,26 @@ impl<'a> Pairs<'a> {
     }
 
     // What two letters weigh together, where they are a pair. Two letters, as `Table::pair` takes them.
-    pub(crate) fn weights(&self, first: u8, second: u8) -> Option<Weights>
+    pub(crate) fn weights(&self, first: u32, second: u32) -> Option<Weights>
         ensures { result ≡ option_map (λ k. weights_at self.now.numbers.now (5 * k + 2)) (place_in self.now.numbers.now self.now.count first second) }
     {
         let place = self.locate(first, second)?;
         Some(weights_at(self.numbers, 5 * place + 2))
     }
 
+    // Whether a pair may begin with this letter.
+    pub(crate) fn may_begin(&self, letter: u32) -> bool
+        ensures { result ≡ begun self.now.numbers.now self.now.count (letter % 256) }
+    {
+        self.begins[(letter % 256) as usize]
+    }
+
     // The place of the pair of two letters. Two letters, as `Table::pair` takes them.
-    pub(crate) fn locate(&self, first: u8, second: u8) -> Option<usize>
+    pub(crate) fn locate(&self, first: u32, second: u32) -> Option<usize>
         ensures place { result ≡ place_in self.now.numbers.now self.now.count first second }
         ensures bound { IfSome result (λ k. k < self.now.count) }
     {
-        if !self.begins[first as usize] {
+        if !self.may_begin(first) {
             return None;
         }
         let mut at = self.heads[bucket(first, second) as usize];
@@ -61,18 +68,20 @@ impl<'a> Pairs<'a> {
     }
 
     // Whether the pair at a place is of these two letters.
-    fn is_at(&self, place: usize, first: u8, second: u8) -> bool
+    fn is_at(&self, place: usize, first: u32, second: u32) -> bool
         requires { place < self.now.count }
         ensures { result ≡ is_pair self.now.numbers.now place first second }
     {
-        self.numbers[5 * place] == first as u16 && self.numbers[5 * place + 1] == second as u16
+        self.numbers[5 * place] as u32 == first && self.numbers[5 * place + 1] as u32 == second
     }
 }
 
 // The bucket of two letters.
 #[tactic(auto, unfolding(crate::specs::Chain::bucket))]
-pub(crate) fn bucket(first: u8, second: u8) -> u8
+pub(crate) fn bucket(first: u32, second: u32) -> u8
     ensures { result ≡ bucket first second }
 {
+    let first = (first % 256) as u8;
+    let second = (second % 256) as u8;
     first.wrapping_mul(31).wrapping_add(second)
 }

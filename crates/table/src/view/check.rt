@@ -1,15 +1,15 @@
 // Checking lent numbers as a table.
-ghost use Rattle.std.specs.Prelude.{◌≡◌, ◌/◌, length};
+ghost use Rattle.std.specs.Prelude.{◌≡◌, ◌/◌, false, length};
 ghost use Rattle.table.specs.Meaning.{Checked};
 ghost use Rattle.table.specs.Refusals.{first_place, foreign, shape_refusal, verdict};
 
 use crate::fault::Refusal;
-use crate::layout::known_letters;
+use crate::layout::unknown;
 use crate::pairs::Pairs;
 use crate::view::Table;
 
 impl<'a> Table<'a> {
-    // Lent numbers as a table: three weights for each of the 256 letters, and five numbers for each of `how_many`
+    // Lent numbers as a table of bytes: three weights for each of the 256 letters, and five numbers for each of `how_many`
     // pairs, two letters and their three weights. They are taken one by one, and not as a struct, as `make_key` hands
     // them on from callers who know tables by numbers alone.
     pub fn check(letters: &'a [u16], pairs: &'a [u16], how_many: u64) -> Result<Table<'a>, Refusal>
@@ -21,7 +21,12 @@ impl<'a> Table<'a> {
         }
         let mut pairs = Pairs::new(pairs);
         pairs.chain()?;
-        Ok(Table { letters, pairs })
+        Ok(Table {
+            letters,
+            others: &[],
+            pairs,
+            utf8: false,
+        })
     }
 }
 
@@ -43,9 +48,9 @@ fn check_shape(letters: usize, pairs: usize, how_many: u64) -> Result<(), Refusa
 
 // The first of the pairs that has a letter above 255.
 fn first_foreign(pairs: &[u16]) -> Option<usize>
-    ensures { result ≡ first_place (foreign pairs.now) (length pairs.now / 5) }
+    ensures { result ≡ first_place (foreign false pairs.now) (length pairs.now / 5) }
 {
     pairs
         .chunks_exact(5)
-        .position(|pair| known_letters(pair[0], pair[1]).is_none())
+        .position(|pair| unknown(false, pair[0] as u32, pair[1] as u32))
 }

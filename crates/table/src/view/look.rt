@@ -1,35 +1,76 @@
 // Looking up what letters weigh.
-ghost use Rattle.std.specs.Prelude.{◌≡◌, ◌≤◌, [], ◌∷◌, length};
+ghost use Rattle.std.specs.Prelude.{◌≡◌, ◌^◌, ◌<◌, ◌≤◌, false, [], ◌∷◌, length};
 ghost use Rattle.std.specs.List.{slice_get};
-ghost use Rattle.table.specs.Meaning.{pairs_of, rules_of};
-ghost use Rattle.table.specs.Rules.{contraction};
+ghost use Rattle.table.specs.Meaning.{letters_of, pairs_of, rules_of};
+ghost use Rattle.table.specs.Rules.{BeginsNone, contraction};
 
 use crate::layout::weights_at;
-use crate::piece::{Pair, Weights};
+use crate::others::letter_weights;
+use crate::piece::{Letter, Pair, Weights};
 use crate::view::Table;
 
 impl Table<'_> {
-    // How many letters there are.
+    // How many letters bytes are.
     pub const LETTERS: usize = 256;
+    // The most letters that may weigh something.
+    pub const MAX_LETTERS: usize = 2000;
     // The most pairs that a table may have.
     pub const MAX_PAIRS: usize = 200;
     // The most letters that a name may have.
     pub const MAX_NAME: usize = 1000;
 
+    // Whether names are bytes in UTF-8; else each byte is a letter.
+    pub fn utf8(&self) -> bool
+        ensures { result ≡ (rules_of self.now).utf8 }
+    {
+        self.utf8
+    }
+
     // What a letter weighs.
     #[tactic(auto, unfolding(crate::specs::Rules::weighs_in))]
-    pub fn letter(&self, letter: u8) -> Weights
+    pub fn letter(&self, letter: u32) -> Weights
         ensures { result ≡ (rules_of self.now).weighs (letter ∷ []) }
     {
-        weights_at(self.letters, 3 * letter as usize)
+        letter_weights(self.letters, self.others, letter)
     }
 
     // What two letters weigh together, where they are one. Two letters, and not a struct of them: a name has them one by one.
-    #[tactic(auto, using(crate::proofs::Places::contracts))]
-    pub fn pair(&self, first: u8, second: u8) -> Option<Weights>
+    pub fn pair(&self, first: u32, second: u32) -> Option<Weights>
         ensures { result ≡ contraction (rules_of self.now) (first ∷ (second ∷ [])) }
     {
         self.pairs.weights(first, second)
+    }
+
+    // Whether a pair may begin with this letter: where not, none does. Most letters need no further look.
+    pub fn may_begin(&self, letter: u32) -> bool
+        ensures { result ≡ false → BeginsNone (rules_of self.now) letter }
+    {
+        self.pairs.may_begin(letter)
+    }
+
+    // How many letters are listed: those below 256, and those that have an entry.
+    pub fn letter_count(&self) -> usize
+        ensures count { result ≡ length (letters_of self.now) }
+        ensures few { result < 2 ^ 63 }
+    {
+        Self::LETTERS + self.others.len()
+    }
+
+    // The letter at a place of the list, counted from 0. A letter that is not listed weighs nothing.
+    pub fn letter_at(&self, place: usize) -> Option<Letter>
+        ensures { result ≡ slice_get (letters_of self.now) place }
+    {
+        if place < Self::LETTERS {
+            return Some(Letter {
+                letter: place as u32,
+                weights: weights_at(self.letters, 3 * place),
+            });
+        }
+        let other = place - Self::LETTERS;
+        if other >= self.others.len() {
+            return None;
+        }
+        Some(self.others[other])
     }
 
     // How many pairs there are.

@@ -17,7 +17,8 @@ pub(crate) fn run(
 ) -> Result<(), AllocError> {
     let mut names = Vec::new(heap);
     for letters in drawn::names(heap, dice, both.alphabet, 40)? {
-        names.push(both.plain.name(heap, &letters)?)?;
+        let name = drawn::damaged(dice, both.alphabet, letters, 4)?;
+        names.push(both.plain.name(heap, &name)?)?;
     }
     for one in &names {
         for other in &names {
@@ -41,9 +42,9 @@ fn try_compare(
         Ordering::Equal => Kind::Equal,
         Ordering::Greater => Kind::Greater,
     });
-    let told = both.table.compare(&one.letters, &other.letters);
+    let told = both.table.compare(&one.bytes, &other.bytes);
     if told != order {
-        let (one, other) = (&one.letters, &other.letters);
+        let (one, other) = (&one.bytes, &other.bytes);
         let what = format!(in heap; "compare {one:?} {other:?}: {told:?}, plainly {order:?}")?;
         report.differ(both.plain, what)?;
     }
@@ -69,9 +70,9 @@ fn try_standing(
         Standing::Begins => Kind::StandBegin,
         Standing::After => Kind::StandAfter,
     });
-    let told = both.table.standing(&name.letters, &asked.letters);
+    let told = both.table.standing(&name.bytes, &asked.bytes);
     if told != standing {
-        let (name, asked) = (&name.letters, &asked.letters);
+        let (name, asked) = (&name.bytes, &asked.bytes);
         let what = format!(in heap; "standing {name:?} {asked:?}: {told:?}, plainly {standing:?}")?;
         report.differ(both.plain, what)?;
     }

@@ -1,4 +1,5 @@
 // Tables that are none.
+use crate::alphabet::Alphabet;
 use crate::dice::Dice;
 use crate::drawn::{self, Scale};
 use crate::lists::{Lists, in_order};
@@ -78,12 +79,12 @@ fn repeat(heap: Global, dice: &mut Dice, plain: &mut Plain) -> Result<(), AllocE
 // Two hundred pairs, or one more.
 fn fill_up(dice: &mut Dice, plain: &mut Plain) -> Result<(), AllocError> {
     let most = 200 + dice.below(3);
-    let mut letter = dice.letter();
+    let mut letter = dice.below(256) as u8;
     for _ in 0..600 {
         letter = letter.wrapping_add(1);
-        let second = dice.letter();
-        if plain.pair_count() < most && plain.pair(letter, second).is_none() {
-            plain.push_pair(letter as u16, second as u16, [1, 2, 3])?;
+        let second = dice.below(256) as u32;
+        if plain.pair_count() < most && plain.pair(letter as u32, second).is_none() {
+            plain.push_pair(letter as u32, second, [1, 2, 3])?;
         }
     }
     Ok(())
@@ -97,7 +98,7 @@ fn try_table(heap: Global, plain: &Plain, report: &mut Report) -> Result<(), All
         Some(Refusal::Shape) => Kind::NoTableShape,
         Some(Refusal::TooMany) => Kind::NoTableTooMany,
         Some(Refusal::Foreign(_)) => Kind::NoTableForeign,
-        Some(Refusal::Twice(_)) => Kind::NoTableTwice,
+        Some(_) => Kind::NoTableTwice,
         None => Kind::TablesUnharmed,
     });
     let told = Table::check(&plain.letters, &plain.pairs, plain.how_many).err();
@@ -114,7 +115,7 @@ fn try_table(heap: Global, plain: &Plain, report: &mut Report) -> Result<(), All
 fn try_entries(
     heap: Global,
     dice: &mut Dice,
-    alphabet: &[u8],
+    alphabet: &Alphabet,
     letters: &[Vec<u8>],
     plain: &Plain,
     report: &mut Report,

@@ -4,6 +4,7 @@ use crate::plain::{Name, Plain};
 use crate::report::{Kind, Report};
 use crate::trial::Both;
 use catalogue::{Catalogue, find, find_under};
+use keys::NameRefusal;
 use std::alloc::{AllocError, Global};
 
 // A list, and its names as they were read.
@@ -27,8 +28,11 @@ pub(crate) fn ask(
     let asked = plain.name(heap, question)?;
     let part = part(heap, listed.names, &lists.places, &asked)?;
     let numbers = part.numbers.as_slice();
-    report.count(if question.len() > 1000 {
-        Kind::QuestionsTooLong
+    report.count(if let Some(why) = asked.refusal {
+        match why {
+            NameRefusal::TooLong(_) => Kind::QuestionsTooLong,
+            NameRefusal::NotUtf8(_) => Kind::QuestionsUnread,
+        }
     } else if numbers.is_empty() {
         Kind::QuestionsVain
     } else if numbers.len() == lists.places.len() {
@@ -76,13 +80,13 @@ fn firsts(catalogue: &Catalogue, question: &[u8], numbers: &[u32]) -> bool {
 fn found(catalogue: &Catalogue, question: &[u8], names: &[Name], numbers: &[u32]) -> bool {
     let found = catalogue.found(question);
     let same = numbers.iter().zip(found).all(|(number, name)| match names.get(*number as usize) {
-        Some(other) => other.letters.as_slice() == name,
+        Some(other) => other.bytes.as_slice() == name,
         None => false,
     });
     same && found.len() == numbers.len() && found.first(2).len() == numbers.len().min(2)
 }
 
-// The entry that takes all as lent numbers finds this part.
+// The entry that takes all as lent numbers finds this part; it knows tables of bytes alone.
 pub(crate) fn ask_entry(
     heap: Global,
     plain: &Plain,
@@ -91,6 +95,9 @@ pub(crate) fn ask_entry(
     numbers: &[u32],
     report: &mut Report,
 ) -> Result<(), AllocError> {
+    if plain.utf8 {
+        return Ok(());
+    }
     report.count(Kind::EntryAsked);
     let told = find(
         &plain.letters,

@@ -1,15 +1,17 @@
 // Names and tables that grow.
+use crate::alphabet::Alphabet;
 use crate::dice::Dice;
 use crate::drawn::{self, Drawn, Scale};
 use crate::lists::{Lists, in_order};
 use crate::plain::Plain;
+use crate::reading;
 use crate::report::{Kind, Report};
-use crate::trial::Both;
 use crate::trial::finding::{Listed, ask};
+use crate::trial::{Both, made};
 use catalogue::{CatalogueBuf, NotTaken, PushError};
 use keys::NameRefusal;
 use std::alloc::{AllocError, Global};
-use table::{AddError, Pair, Refusal, Table, Weights};
+use table::{AddError, Letter, Pair, Refusal, Table, Weights};
 
 // A book, and what it should hold.
 #[derive(Drop)]
@@ -17,6 +19,8 @@ struct Grown {
     book: CatalogueBuf,
     plain: Plain,
     names: Vec<Vec<u8>>,
+    // The letters that its names are mostly made of.
+    alphabet: Alphabet,
     in_order: bool,
 }
 
@@ -30,10 +34,14 @@ pub(crate) fn run(
         book: CatalogueBuf::new(both.table.to_buf(heap)?, heap)?,
         plain: both.plain.copy(heap)?,
         names: Vec::new(heap),
+        alphabet: Alphabet {
+            utf8: both.alphabet.utf8,
+            letters: both.alphabet.letters.to_vec(heap)?,
+        },
         in_order: false,
     };
     for _ in 0..30 {
-        grown.step(heap, dice, both.alphabet, report)?;
+        grown.step(heap, dice, both.plain.utf8, report)?;
         let told = grown.book.catalogue().is_some();
         if told != grown.in_order {
             report.differ(
@@ -46,48 +54,45 @@ pub(crate) fn run(
 }
 
 impl Grown {
-    // A name or a pair more, another letter or table, or all names put in order and asked for.
+    // A name, a letter or a pair more, another table, now and then one that reads names otherwise, or all names put in order and asked for.
     fn step(
         &mut self,
         heap: Global,
         dice: &mut Dice,
-        alphabet: &[u8],
+        may_turn: bool,
         report: &mut Report,
     ) -> Result<(), AllocError> {
         match dice.below(16) {
-            0..8 => self.push(heap, dice, alphabet, report),
-            8 | 9 => self.add_pair(heap, dice, alphabet, report),
-            10 => {
-                self.set_letter(dice, alphabet, report);
-                Ok(())
-            }
-            11 if dice.once_in(3) => self.set_table(heap, dice, report),
+            0..8 => self.push(heap, dice, report),
+            8 | 9 => self.add_pair(heap, dice, report),
+            10 => self.add_letter(heap, dice, report),
+            11 if dice.once_in(3) => self.set_table(heap, dice, may_turn, report),
             _ => {
                 self.book.put_in_order(heap)?;
                 self.in_order = true;
-                self.look(heap, dice, alphabet, report)
+                self.look(heap, dice, report)
             }
         }
     }
 
-    // One name more, now and then one that is too long.
+    // One name more, now and then one that is too long or damaged.
     fn push(
         &mut self,
         heap: Global,
         dice: &mut Dice,
-        alphabet: &[u8],
         report: &mut Report,
     ) -> Result<(), AllocError> {
         let long = dice.once_in(12);
         let name = if long {
-            drawn::letters_drawn(heap, dice, alphabet, 1001)?
+            drawn::letters_drawn(heap, dice, &self.alphabet, 1001)?
         } else {
-            drawn::name(heap, dice, alphabet)?
+            drawn::name(heap, dice, &self.alphabet)?
         };
-        let wanted = if long {
-            Err(PushError::Refused(NotTaken::Name(NameRefusal::TooLong(1001))))
-        } else {
-            Ok(())
+        let name = drawn::damaged(dice, &self.alphabet, name, 12)?;
+        let refusal = reading::refusal(self.plain.utf8, &name);
+        let wanted = match refusal {
+            Some(why) => Err(PushError::Refused(NotTaken::Name(why))),
+            None => Ok(()),
         };
         let told = self.book.push(&name);
         if told != wanted {
@@ -96,10 +101,12 @@ impl Grown {
                 format!(in heap; "push {name:?}: {told:?}, plainly {wanted:?}")?,
             )?;
         }
-        if long {
-            report.count(Kind::PushedTooLong);
-        } else {
-            report.count(Kind::Pushed);
+        report.count(match refusal {
+            Some(NameRefusal::TooLong(_)) => Kind::PushedTooLong,
+            Some(NameRefusal::NotUtf8(_)) => Kind::PushedUnread,
+            None => Kind::Pushed,
+        });
+        if refusal.is_none() {
             self.names.push(name)?;
             self.in_order = false;
         }
@@ -111,21 +118,20 @@ impl Grown {
         &mut self,
         heap: Global,
         dice: &mut Dice,
-        alphabet: &[u8],
         report: &mut Report,
     ) -> Result<(), AllocError> {
         let weights = Scale::new(dice).weights(dice);
         let mut pair = Pair {
-            first: dice.letter_of(alphabet) as u16,
-            second: dice.letter_of(alphabet) as u16,
+            first: self.alphabet.one(dice),
+            second: self.alphabet.one(dice),
             weights: Weights::from(weights),
         };
         match dice.below(12) {
-            0 => pair.first = 256,
+            0 => pair.first = if self.plain.utf8 { 65536 } else { 256 },
             1 => pair.second = 65535,
             _ => {}
         }
-        let refusal = self.refusal(pair);
+        let refusal = self.plain.pair_refusal(pair.first, pair.second);
         let wanted = match refusal {
             Some(why) => Err(AddError::Refused(why)),
             None => Ok(()),
@@ -148,66 +154,104 @@ impl Grown {
         Ok(())
     }
 
-    // Why a pair can't be one of the table's.
-    fn refusal(&self, pair: Pair) -> Option<Refusal> {
-        let place = self.plain.pair_count();
-        if place >= 200 {
-            return Some(Refusal::TooMany);
-        }
-        match (u8::try_from(pair.first), u8::try_from(pair.second)) {
-            (Ok(first), Ok(second)) => match self.plain.pair(first, second) {
-                Some(_) => Some(Refusal::Twice(place)),
-                None => None,
-            },
-            _ => Some(Refusal::Foreign(place)),
-        }
-    }
-
-    fn set_letter(&mut self, dice: &mut Dice, alphabet: &[u8], report: &mut Report) {
-        let letter = dice.letter_of(alphabet);
-        let weights = Scale::new(dice).weights(dice);
-        self.book.set_letter(letter, Weights::from(weights));
-        self.plain.set_letter(letter, weights);
-        self.in_order = false;
-        report.count(Kind::LettersSet);
-    }
-
-    // Another table.
-    fn set_table(
+    // One letter more, now and then one that a table can't have.
+    fn add_letter(
         &mut self,
         heap: Global,
         dice: &mut Dice,
         report: &mut Report,
     ) -> Result<(), AllocError> {
-        let plain = Drawn::new(heap, dice)?.plain;
-        match Table::check(&plain.letters, &plain.pairs, plain.how_many) {
-            Ok(table) => self.book.set_table(table.to_buf(heap)?),
+        let letter = match dice.below(8) {
+            0 if self.plain.utf8 => 0xd800 + dice.below(0x3000) as u32,
+            0 => 256,
+            1..4 => self.alphabet.any(dice),
+            _ => self.alphabet.one(dice),
+        };
+        let weights = Scale::new(dice).weights(dice);
+        let entry = Letter {
+            letter,
+            weights: Weights::from(weights),
+        };
+        let many = self.plain.letter_count();
+        let refusal = self.plain.letter_refusal(many, letter, weights);
+        let wanted = match refusal {
+            Some(why) => Err(AddError::Refused(why)),
+            None => Ok(()),
+        };
+        let told = self.book.add_letter(entry);
+        if told != wanted {
+            let what = format!(in heap; "add_letter {entry:?}: {told:?}, plainly {wanted:?}")?;
+            report.differ(&self.plain, what)?;
+        }
+        report.count(match refusal {
+            Some(Refusal::NoLetter(_)) => Kind::LettersForeign,
+            Some(Refusal::TooManyLetters) => Kind::LettersTooMany,
+            Some(_) => Kind::LettersTwice,
+            None => Kind::LettersAdded,
+        });
+        if refusal.is_none() {
+            if weights != [0; 3] {
+                self.plain.set_letter(letter, weights);
+            }
+            self.in_order = false;
+        }
+        Ok(())
+    }
+
+    // Another table; where its names are not names under it, the book stays as it is.
+    fn set_table(
+        &mut self,
+        heap: Global,
+        dice: &mut Dice,
+        may_turn: bool,
+        report: &mut Report,
+    ) -> Result<(), AllocError> {
+        let utf8 = may_turn && dice.once_in(2);
+        let Drawn { plain, alphabet } = if utf8 {
+            Drawn::in_utf8(heap, dice)?
+        } else {
+            Drawn::new(heap, dice)?
+        };
+        let wanted = Lists::new(heap, &self.names)?.names_fault(utf8);
+        match made(heap, &plain) {
+            Ok(own) => {
+                let told = self.book.set_table(own).err();
+                if told != wanted {
+                    let what = format!(in heap; "set_table: {told:?}, plainly {wanted:?}")?;
+                    report.differ(&self.plain, what)?;
+                }
+            }
             Err(why) => report.differ(
                 &plain,
                 format!(in heap; "a table is turned away: {why:?}")?,
             )?,
         }
+        if wanted.is_some() {
+            report.count(Kind::TablesNotSet);
+            return Ok(());
+        }
+        report.count(if utf8 == self.plain.utf8 {
+            Kind::TablesSet
+        } else {
+            Kind::TablesTurned
+        });
+        if may_turn {
+            self.alphabet = alphabet;
+        }
         self.plain = plain;
         self.in_order = false;
-        report.count(Kind::TablesSet);
         Ok(())
     }
 
     // All names are in the catalogue, in order.
-    fn look(
-        &self,
-        heap: Global,
-        dice: &mut Dice,
-        alphabet: &[u8],
-        report: &mut Report,
-    ) -> Result<(), AllocError> {
+    fn look(&self, heap: Global, dice: &mut Dice, report: &mut Report) -> Result<(), AllocError> {
         let mut lists = Lists::new(heap, &self.names)?;
         let names = lists.names(heap, &self.plain)?;
         lists.places = in_order(heap, &names)?;
         let both = Both {
             plain: &self.plain,
             table: self.book.table(),
-            alphabet,
+            alphabet: &self.alphabet,
         };
         report.count(Kind::Grown);
         match self.book.catalogue() {
@@ -225,7 +269,7 @@ impl Grown {
                     names: &names,
                 };
                 for _ in 0..3 {
-                    let question = drawn::question(heap, dice, alphabet, &self.names)?;
+                    let question = drawn::question(heap, dice, &self.alphabet, &self.names)?;
                     ask(heap, &listed, &catalogue, &question, report)?;
                 }
                 Ok(())

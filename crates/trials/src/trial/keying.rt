@@ -4,7 +4,7 @@ use crate::drawn;
 use crate::plain::{Name, Plain};
 use crate::report::{Kind, Report};
 use crate::trial::Both;
-use keys::{Done, KeyError, NameRefusal, Short, SortKeys, make_key};
+use keys::{Done, KeyError, KeyNumbers, NameRefusal, Short, SortKeys, make_key};
 use std::alloc::{AllocError, Global};
 
 // What lies in rooms before.
@@ -22,7 +22,9 @@ pub(crate) fn run(
         } else {
             drawn::name(heap, dice, both.alphabet)?
         };
+        let letters = drawn::damaged(dice, both.alphabet, letters, 4)?;
         let name = both.plain.name(heap, &letters)?;
+        try_refusal(heap, both, &name, report)?;
         try_key(heap, both, &name, report)?;
         let needs = name.key.len();
         for size in [
@@ -34,15 +36,34 @@ pub(crate) fn run(
             letters.len().saturating_mul(3).saturating_add(2),
         ] {
             try_wide(heap, both, &name, size, report)?;
-            try_entry(heap, both.plain, true, &name, size, report)?;
+            if !both.plain.utf8 {
+                try_entry(heap, both.plain, true, &name, size, report)?;
+            }
         }
+    }
+    Ok(())
+}
+
+// What is wrong with the name.
+fn try_refusal(
+    heap: Global,
+    both: &Both,
+    name: &Name,
+    report: &mut Report,
+) -> Result<(), AllocError> {
+    let told = NameRefusal::of(both.plain.utf8, &name.bytes);
+    let wanted = name.refusal;
+    if told != wanted {
+        let bytes = &name.bytes;
+        let what = format!(in heap; "a name {bytes:?}: {told:?}, plainly {wanted:?}")?;
+        report.differ(both.plain, what)?;
     }
     Ok(())
 }
 
 // How long the key is, and the key in memory of its own.
 fn try_key(heap: Global, both: &Both, name: &Name, report: &mut Report) -> Result<(), AllocError> {
-    let letters = &name.letters;
+    let letters = &name.bytes;
     let needs = name.key.len();
     report.count(Kind::Keys);
     if name.row.is_empty() {
@@ -55,14 +76,20 @@ fn try_key(heap: Global, both: &Both, name: &Name, report: &mut Report) -> Resul
             format!(in heap; "key_len of {letters:?}: {told}, plainly {needs}")?,
         )?;
     }
-    let long = letters.len() > 1000;
+    let numbers = KeyNumbers::new(&both.table, letters);
+    if !numbers.eq(name.key.iter().copied()) {
+        report.differ(both.plain, format!(in heap; "KeyNumbers of {letters:?}")?)?;
+    }
     let made = both.table.sort_key(heap, letters);
     let same = match &made {
-        Ok(key) => !long && key.as_slice() == name.key.as_slice(),
-        Err(why) => long && *why == KeyError::Refused(NameRefusal::TooLong(letters.len())),
+        Ok(key) => name.refusal.is_none() && key.as_slice() == name.key.as_slice(),
+        Err(KeyError::Refused(why)) => name.refusal == Some(*why),
+        Err(KeyError::NoMemory) => false,
     };
-    if long {
-        report.count(Kind::KeysTooLong);
+    match name.refusal {
+        Some(NameRefusal::TooLong(_)) => report.count(Kind::KeysTooLong),
+        Some(NameRefusal::NotUtf8(_)) => report.count(Kind::KeysUnread),
+        None => {}
     }
     if !same {
         let key = &name.key;
@@ -100,10 +127,10 @@ fn try_wide(
         Kind::RoomsWritten
     });
     let mut room = room_with(heap, &[], size)?;
-    let told = both.table.write_key(&name.letters, &mut room);
+    let told = both.table.write_key(&name.bytes, &mut room);
     let left = room_with(heap, key, size)?;
     if told != wanted || room.as_slice() != left.as_slice() {
-        let letters = &name.letters;
+        let letters = &name.bytes;
         let what = format!(in heap;
             "write_key of {letters:?} into {size}: {told:?} {room:?}, plainly {wanted:?} {left:?}"
         )?;
@@ -124,7 +151,7 @@ pub(crate) fn try_entry(
     let needs = name.key.len();
     let (wanted, key) = if !is_table {
         (Done::Refused(1), [].as_slice())
-    } else if name.letters.len() > 1000 {
+    } else if name.refusal.is_some() {
         (Done::Refused(2), [].as_slice())
     } else if size < needs {
         (Done::Short(needs as u64), [].as_slice())
@@ -142,13 +169,13 @@ pub(crate) fn try_entry(
         &plain.letters,
         &plain.pairs,
         plain.how_many,
-        &name.letters,
+        &name.bytes,
         &mut room,
     );
     let left = room_with(heap, key, size)?;
     let same = room.len() == left.len() && room.iter().zip(&left).all(|(a, b)| *a as u32 == *b);
     if told != wanted || !same {
-        let letters = &name.letters;
+        let letters = &name.bytes;
         let what = format!(in heap;
             "make_key of {letters:?} into {size}: {told:?} {room:?}, plainly {wanted:?} {left:?}"
         )?;

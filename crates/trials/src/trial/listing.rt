@@ -63,10 +63,10 @@ fn try_in_order(
             }
         }
     }
-    match Names::check(&lists.text, &lists.starts) {
+    match Names::check(&both.table, &lists.text, &lists.starts) {
         Ok(all) => {
             for (number, name) in (0..u32::MAX).zip(names) {
-                if all.name(number) != Some(name.letters.as_slice()) {
+                if all.name(number) != Some(name.bytes.as_slice()) {
                     report.differ(both.plain, format!(in heap; "name {number} of a list")?)?;
                 }
             }
@@ -133,7 +133,7 @@ fn shows(catalogue: &Catalogue, lists: &Lists, names: &[Name]) -> bool {
     let same = (0..usize::MAX).zip(&lists.places).all(|(place, number)| {
         let name = names
             .get(*number as usize)
-            .map(|name| name.letters.as_slice());
+            .map(|name| name.bytes.as_slice());
         name.is_some() && catalogue.name(place) == name
     });
     same && catalogue.name(lists.places.len()).is_none()

@@ -1,4 +1,5 @@
 // Tables looked into: what letters and pairs weigh, and the pairs as they lie.
+use crate::alphabet::any_letter;
 use crate::dice::Dice;
 use crate::plain::Plain;
 use crate::report::{Kind, Report};
@@ -32,12 +33,16 @@ pub(crate) fn run(
 
 // The table, filled pair by pair and letter by letter.
 fn filled(heap: Global, plain: &Plain) -> Result<TableBuf, AddError> {
-    let mut own = TableBuf::new(heap)?;
-    for pair in (0..plain.pair_count()).filter_map(|place| plain.pair_at(place)) {
-        own.add_pair(pair)?;
+    let mut own = if plain.utf8 {
+        TableBuf::in_utf8(heap)?
+    } else {
+        TableBuf::new(heap)?
+    };
+    for pair in &plain.listed_pairs(heap)? {
+        own.add_pair(*pair)?;
     }
-    for letter in 0..=255 {
-        own.set_letter(letter, Weights::from(plain.letter(letter)));
+    for entry in &plain.listed(heap)? {
+        own.add_letter(*entry)?;
     }
     Ok(own)
 }
@@ -51,11 +56,10 @@ fn look(
     report: &mut Report,
 ) -> Result<(), AllocError> {
     let plain = both.plain;
-    for letter in 0..=255 {
-        report.count(Kind::Letters);
-        let weights = table.letter(letter);
-        if weights != Weights::from(plain.letter(letter)) {
-            report.differ(plain, format!(in heap; "letter {letter}: {weights:?}")?)?;
+    look_at_letters(heap, plain, table, report)?;
+    if plain.utf8 {
+        for _ in 0..100 {
+            look_at(heap, plain, table, any_number(dice), report)?;
         }
     }
     let count = plain.pair_count();
@@ -71,23 +75,71 @@ fn look(
         if pair != plain.pair_at(place) {
             report.differ(plain, format!(in heap; "pair_at {place}: {pair:?}")?)?;
         }
-        if let Some(Ok(first)) = pair.map(|pair| u8::try_from(pair.first)) {
-            look_up(
-                heap,
-                plain,
-                table,
-                first,
-                dice.letter_of(both.alphabet),
-                report,
-            )?;
+        if let Some(pair) = pair {
+            let second = both.alphabet.one(dice);
+            look_up(heap, plain, table, pair.first, second, report)?;
         }
     }
     for _ in 0..100 {
-        let (first, second) = (dice.letter_of(both.alphabet), dice.letter_of(both.alphabet));
+        let (first, second) = (both.alphabet.one(dice), both.alphabet.one(dice));
         look_up(heap, plain, table, first, second, report)?;
-        look_up(heap, plain, table, dice.letter(), second, report)?;
+        let first = both.alphabet.any(dice);
+        look_up(heap, plain, table, first, second, report)?;
     }
     Ok(())
+}
+
+// The letters that are listed, and none behind.
+fn look_at_letters(
+    heap: Global,
+    plain: &Plain,
+    table: &Table,
+    report: &mut Report,
+) -> Result<(), AllocError> {
+    let listed = plain.listed(heap)?;
+    for (place, entry) in listed.iter().enumerate() {
+        look_at(heap, plain, table, entry.letter, report)?;
+        let told = table.letter_at(place);
+        if told != Some(*entry) {
+            let what = format!(in heap; "letter_at {place}: {told:?}, plainly {entry:?}")?;
+            report.differ(plain, what)?;
+        }
+    }
+    let count = listed.len();
+    let told = table.letter_count();
+    if told != count || table.letter_at(count).is_some() || table.letter_at(usize::MAX).is_some() {
+        report.differ(
+            plain,
+            format!(in heap; "letter_count: {told}, plainly {count}")?,
+        )?;
+    }
+    Ok(())
+}
+
+// What a letter weighs.
+fn look_at(
+    heap: Global,
+    plain: &Plain,
+    table: &Table,
+    letter: u32,
+    report: &mut Report,
+) -> Result<(), AllocError> {
+    report.count(Kind::Letters);
+    let weights = table.letter(letter);
+    if weights != Weights::from(plain.letter(letter)) {
+        report.differ(plain, format!(in heap; "letter {letter}: {weights:?}")?)?;
+    }
+    Ok(())
+}
+
+// Any number, letter or not.
+fn any_number(dice: &mut Dice) -> u32 {
+    match dice.below(4) {
+        0 => 0xd800 + dice.below(0x800) as u32,
+        1 => 0x10000 + dice.below(0x10000) as u32,
+        2 => u32::MAX,
+        _ => any_letter(dice, true),
+    }
 }
 
 // What two letters weigh together.
@@ -95,8 +147,8 @@ fn look_up(
     heap: Global,
     plain: &Plain,
     table: &Table,
-    first: u8,
-    second: u8,
+    first: u32,
+    second: u32,
     report: &mut Report,
 ) -> Result<(), AllocError> {
     let together = plain

@@ -1,9 +1,11 @@
 // Newer tables, and what they keep of older ones.
+use crate::alphabet::Alphabet;
 use crate::dice::Dice;
 use crate::drawn::{self, Drawn, Scale};
 use crate::plain::{Plain, compare};
+use crate::reading;
 use crate::report::{Kind, Report};
-use crate::trial::Both;
+use crate::trial::{Both, made};
 use keys::Level;
 use order::{Change, Collate, Piece, keeps_order};
 use std::alloc::{AllocError, Global};
@@ -15,23 +17,37 @@ pub(crate) fn run(
     both: &Both,
     report: &mut Report,
 ) -> Result<(), AllocError> {
-    let mut old = [false; 256];
+    let marks = if !both.plain.utf8 {
+        256
+    } else if dice.once_in(4) {
+        300
+    } else {
+        65536
+    };
+    let mut old = vec![in heap; false; marks]?;
     let mut letters = Vec::new(heap);
     let left_out = match dice.below(3) {
         0 => 2,
         1 => 4,
         _ => 100,
     };
-    for letter in both.alphabet {
+    for letter in &both.alphabet.letters {
         if !dice.once_in(left_out) {
-            old[*letter as usize] = true;
-            letters.push(*letter)?;
+            if let Some(mark) = old.get_mut(*letter as usize) {
+                *mark = true;
+                letters.push(*letter)?;
+            }
         }
     }
+    let letters = Alphabet {
+        utf8: both.plain.utf8,
+        letters,
+    };
     for _ in 0..5 {
         let newer = renewed(heap, dice, both, &old)?;
-        match Table::check(&newer.letters, &newer.pairs, newer.how_many) {
-            Ok(table) => {
+        match made(heap, &newer) {
+            Ok(own) => {
+                let table = own.table();
                 let told = keeps_order(&both.table, &table, &old);
                 try_change(heap, both.plain, &newer, &old, told, report)?;
                 if told.is_ok() {
@@ -48,25 +64,22 @@ pub(crate) fn run(
 }
 
 // A table made of another: on another scale, with new letters and pairs, with one weight or one pair changed, or drawn anew.
-fn renewed(
-    heap: Global,
-    dice: &mut Dice,
-    both: &Both,
-    old: &[bool; 256],
-) -> Result<Plain, AllocError> {
+fn renewed(heap: Global, dice: &mut Dice, both: &Both, old: &[bool]) -> Result<Plain, AllocError> {
     let mut newer = both.plain.copy(heap)?;
-    match dice.below(10) {
+    let is_full = newer.letter_count() > 1990;
+    match if is_full { 0 } else { dice.below(10) } {
         0..3 => rescale(dice, &mut newer),
-        3..5 => add_new(dice, &mut newer, old)?,
+        3..5 => add_new(dice, &mut newer, old, both.alphabet)?,
         5 => {
             rescale(dice, &mut newer);
-            add_new(dice, &mut newer, old)?;
+            add_new(dice, &mut newer, old, both.alphabet)?;
         }
         6 | 7 => {
             let weights = Scale::new(dice).weights(dice);
-            newer.set_letter(dice.letter_of(both.alphabet), weights);
+            newer.set_letter(both.alphabet.one(dice), weights);
         }
         8 => change_pairs(heap, dice, &mut newer, both.alphabet)?,
+        _ if both.plain.utf8 && dice.once_in(2) => newer = Drawn::in_utf8(heap, dice)?.plain,
         _ => newer = Drawn::new(heap, dice)?.plain,
     }
     Ok(newer)
@@ -89,12 +102,17 @@ fn rescale(dice: &mut Dice, newer: &mut Plain) {
 }
 
 // New letters weigh something else, and are one with others.
-fn add_new(dice: &mut Dice, newer: &mut Plain, old: &[bool; 256]) -> Result<(), AllocError> {
+fn add_new(
+    dice: &mut Dice,
+    newer: &mut Plain,
+    old: &[bool],
+    alphabet: &Alphabet,
+) -> Result<(), AllocError> {
     for _ in 0..6 {
         let scale = Scale::new(dice);
-        let letter = dice.letter();
-        let other = dice.letter();
-        if !old[letter as usize] {
+        let letter = alphabet.any(dice);
+        let other = alphabet.any(dice);
+        if !is_old(old, letter) {
             newer.set_letter(letter, scale.weights(dice));
             let (first, second) = if dice.once_in(2) {
                 (letter, other)
@@ -102,7 +120,7 @@ fn add_new(dice: &mut Dice, newer: &mut Plain, old: &[bool; 256]) -> Result<(), 
                 (other, letter)
             };
             if newer.pair(first, second).is_none() && newer.pair_count() < 200 {
-                newer.push_pair(first as u16, second as u16, scale.weights(dice))?;
+                newer.push_pair(first, second, scale.weights(dice))?;
             }
         }
     }
@@ -114,16 +132,16 @@ fn change_pairs(
     heap: Global,
     dice: &mut Dice,
     newer: &mut Plain,
-    alphabet: &[u8],
+    alphabet: &Alphabet,
 ) -> Result<(), AllocError> {
     if dice.once_in(2) {
         let place = dice.below(newer.pair_count());
         newer.drop_pair(heap, place)?;
     }
-    let (first, second) = (dice.letter_of(alphabet), dice.letter_of(alphabet));
+    let (first, second) = (alphabet.one(dice), alphabet.one(dice));
     if dice.once_in(2) && newer.pair(first, second).is_none() && newer.pair_count() < 200 {
         let weights = Scale::new(dice).weights(dice);
-        newer.push_pair(first as u16, second as u16, weights)?;
+        newer.push_pair(first, second, weights)?;
     }
     Ok(())
 }
@@ -136,15 +154,11 @@ struct Shift {
 }
 
 // The pairs of a table whose letters are both old.
-fn old_pairs(heap: Global, plain: &Plain, old: &[bool; 256]) -> Result<Vec<(u8, u8)>, AllocError> {
+fn old_pairs(heap: Global, plain: &Plain, old: &[bool]) -> Result<Vec<(u32, u32)>, AllocError> {
     let mut pairs = Vec::new(heap);
-    for pair in plain.pairs.chunks_exact(5) {
-        if let [first, second, ..] = pair {
-            if let (Ok(first), Ok(second)) = (u8::try_from(*first), u8::try_from(*second)) {
-                if old[first as usize] && old[second as usize] {
-                    pairs.push((first, second))?;
-                }
-            }
+    for pair in &plain.listed_pairs(heap)? {
+        if is_old(old, pair.first) && is_old(old, pair.second) {
+            pairs.push((pair.first, pair.second))?;
         }
     }
     Ok(pairs)
@@ -155,11 +169,11 @@ fn weighed(
     heap: Global,
     older: &Plain,
     newer: &Plain,
-    old: &[bool; 256],
+    old: &[bool],
 ) -> Result<Option<Vec<Shift>>, AllocError> {
     let mut pieces = Vec::new(heap);
-    for letter in 0..=255u8 {
-        if old[letter as usize] {
+    for (letter, mark) in (0..u32::MAX).zip(old) {
+        if *mark {
             pieces.push(Shift {
                 before: older.letter(letter),
                 now: newer.letter(letter),
@@ -188,12 +202,10 @@ fn stand_as_before(one: Shift, other: Shift) -> bool {
 }
 
 // Whether the tests of a newer table hold, by each two of the old pieces.
-fn keeps(
-    heap: Global,
-    older: &Plain,
-    newer: &Plain,
-    old: &[bool; 256],
-) -> Result<bool, AllocError> {
+fn keeps(heap: Global, older: &Plain, newer: &Plain, old: &[bool]) -> Result<bool, AllocError> {
+    if older.utf8 != newer.utf8 {
+        return Ok(false);
+    }
     let Some(pieces) = weighed(heap, older, newer, old)? else {
         return Ok(false);
     };
@@ -208,10 +220,10 @@ fn keeps(
 }
 
 // What a piece weighs on a level; nothing where it is two letters that are not one, or not all its letters are old.
-fn weight(plain: &Plain, old: &[bool; 256], piece: Piece, level: Level) -> Option<u16> {
+fn weight(plain: &Plain, old: &[bool], piece: Piece, level: Level) -> Option<u16> {
     let weights = match piece {
-        Piece::Letter(letter) if old[letter as usize] => Some(plain.letter(letter)),
-        Piece::Pair(first, second) if old[first as usize] && old[second as usize] => plain.pair(
+        Piece::Letter(letter) if is_old(old, letter) => Some(plain.letter(letter)),
+        Piece::Pair(first, second) if is_old(old, first) && is_old(old, second) => plain.pair(
             first, second,
         ),
         _ => None,
@@ -224,11 +236,20 @@ fn weight(plain: &Plain, old: &[bool; 256], piece: Piece, level: Level) -> Optio
     })
 }
 
+// Whether a letter is marked.
+fn is_old(old: &[bool], letter: u32) -> bool {
+    old.get(letter as usize) == Some(&true)
+}
+
 // Whether what is told has changed.
-fn has_changed(older: &Plain, newer: &Plain, old: &[bool; 256], change: Change) -> bool {
+fn has_changed(older: &Plain, newer: &Plain, old: &[bool], change: Change) -> bool {
     let before = |piece, level| weight(older, old, piece, level);
     let now = |piece, level| weight(newer, old, piece, level);
+    if older.utf8 != newer.utf8 {
+        return change == Change::Utf8;
+    }
     match change {
+        Change::Utf8 => false,
         Change::Joins(piece) => {
             before(piece, Level::Primary).is_some() != now(piece, Level::Primary).is_some()
         }
@@ -256,13 +277,14 @@ fn try_change(
     heap: Global,
     older: &Plain,
     newer: &Plain,
-    old: &[bool; 256],
+    old: &[bool],
     told: Result<(), Change>,
     report: &mut Report,
 ) -> Result<(), AllocError> {
     let keeps = keeps(heap, older, newer, old)?;
     report.count(match told {
         Ok(()) => Kind::NewerKeeps,
+        Err(Change::Utf8) => Kind::NewerReads,
         Err(Change::Joins(_)) => Kind::NewerJoins,
         Err(Change::Counts(_, _)) => Kind::NewerCounts,
         Err(Change::Order(_, _, _)) => Kind::NewerOrders,
@@ -285,21 +307,20 @@ fn try_names(
     both: &Both,
     newer: &Plain,
     table: &Table,
-    letters: &[u8],
+    letters: &Alphabet,
     report: &mut Report,
 ) -> Result<(), AllocError> {
     let mut names = Vec::new(heap);
     for _ in 0..12 {
-        names.push(old_name(heap, dice, letters)?)?;
+        let name = old_name(heap, dice, letters)?;
+        names.push((both.plain.name(heap, &name)?, newer.name(heap, &name)?))?;
     }
-    for one in &names {
-        for other in &names {
+    for (one, one_now) in &names {
+        for (other, other_now) in &names {
             report.count(Kind::Kept);
-            let before = compare(
-                &both.plain.name(heap, one)?.key,
-                &both.plain.name(heap, other)?.key,
-            );
-            let now = compare(&newer.name(heap, one)?.key, &newer.name(heap, other)?.key);
+            let before = compare(&one.key, &other.key);
+            let now = compare(&one_now.key, &other_now.key);
+            let (one, other) = (&one.bytes, &other.bytes);
             let told = table.compare(one, other);
             if before != now || told != now {
                 let what = format!(in heap;
@@ -313,11 +334,11 @@ fn try_names(
 }
 
 // A name of none to seven letters, all of them old.
-fn old_name(heap: Global, dice: &mut Dice, letters: &[u8]) -> Result<Vec<u8>, AllocError> {
+fn old_name(heap: Global, dice: &mut Dice, old: &Alphabet) -> Result<Vec<u8>, AllocError> {
     let mut name = Vec::new(heap);
-    if !letters.is_empty() {
+    if !old.letters.is_empty() {
         for _ in 0..dice.below(8) {
-            name.push(dice.letter_of(letters))?;
+            reading::write(&mut name, old.utf8, old.one(dice))?;
         }
     }
     Ok(name)

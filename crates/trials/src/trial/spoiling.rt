@@ -1,11 +1,12 @@
 // Lists that are no catalogue.
 use crate::dice::Dice;
-use crate::drawn;
 use crate::lists::{Lists, in_order, number};
 use crate::report::{Kind, Report};
 use crate::trial::Both;
 use crate::trial::finding::ask_entry;
+use crate::{drawn, reading};
 use catalogue::{Catalogue, ListFault, Names, find_under};
+use keys::NameRefusal;
 use std::alloc::{AllocError, Global};
 
 pub(crate) fn run(
@@ -31,6 +32,9 @@ pub(crate) fn run(
 
 // The lists are changed in some way; now and then they still are those of a catalogue.
 fn spoil(heap: Global, dice: &mut Dice, both: &Both, lists: &mut Lists) -> Result<(), AllocError> {
+    if both.alphabet.utf8 && dice.once_in(3) {
+        return spoil_text(dice, lists);
+    }
     match dice.below(12) {
         0 if dice.once_in(2) => lists.starts.clear(),
         0 | 1 => {
@@ -38,8 +42,8 @@ fn spoil(heap: Global, dice: &mut Dice, both: &Both, lists: &mut Lists) -> Resul
         }
         2 | 3 => move_start(dice, &mut lists.starts),
         4 => {
-            let letter = dice.letter_of(both.alphabet);
-            lists.text.push(letter)?;
+            let letter = both.alphabet.one(dice);
+            reading::write(&mut lists.text, both.alphabet.utf8, letter)?;
         }
         5 => {
             lists.text.pop();
@@ -71,6 +75,16 @@ fn spoil(heap: Global, dice: &mut Dice, both: &Both, lists: &mut Lists) -> Resul
     Ok(())
 }
 
+// The text is damaged, and ends where the last start is.
+fn spoil_text(dice: &mut Dice, lists: &mut Lists) -> Result<(), AllocError> {
+    drawn::damage(dice, &mut lists.text)?;
+    let end = number(lists.text.len());
+    if lists.starts.pop().is_some() {
+        lists.starts.push(end)?;
+    }
+    Ok(())
+}
+
 // A start is elsewhere: near, or far behind.
 fn move_start(dice: &mut Dice, starts: &mut Vec<u32>) {
     let place = dice.below(starts.len());
@@ -97,14 +111,15 @@ fn try_lists(
     report.count(match fault {
         Some(ListFault::NoStart) => Kind::NoListStart,
         Some(ListFault::StartFalls(_)) => Kind::NoListFalls,
-        Some(ListFault::NameTooLong(_, _)) => Kind::NoListTooLong,
+        Some(ListFault::NameRefused(_, NameRefusal::TooLong(_))) => Kind::NoListTooLong,
+        Some(ListFault::NameRefused(_, NameRefusal::NotUtf8(_))) => Kind::NoListUnread,
         Some(ListFault::EndsElsewhere(_)) => Kind::NoListEnd,
         Some(ListFault::NoSuchName(_)) => Kind::NoListName,
         Some(ListFault::OutOfOrder(_)) => Kind::NoListOrder,
         None => Kind::ListsUnharmed,
     });
-    let told = Names::check(&lists.text, &lists.starts).err();
-    let wanted = lists.starts_fault();
+    let told = Names::check(&both.table, &lists.text, &lists.starts).err();
+    let wanted = lists.names_fault(plain.utf8);
     if told != wanted {
         report.differ(
             plain,

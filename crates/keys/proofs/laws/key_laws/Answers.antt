@@ -1,16 +1,20 @@
 use Rattle.std.proofs.Common.{refl}
 use Rattle.keys.specs.Pieces.{pieces}
-use Rattle.keys.specs.Rows.{without_zeros, key, row}
-use Rattle.keys.proofs.Bounding.{key_few, row_free}
+use Rattle.keys.specs.Letters.{letters_in}
+use Rattle.keys.specs.Rows.{without_zeros, key, row, row_of}
+use Rattle.keys.proofs.Alike.{same_keys}
+use Rattle.keys.proofs.Lettering.{few_letters}
+use Rattle.keys.proofs.Bounding.{key_by_letters, row_free}
 use Rattle.keys.proofs.Reading.{one_reading}
 use Rattle.keys.proofs.laws.key_laws.Goals as goal
 
 pub returns-clause-laws : goal.returns-clause-laws
-unfolding pieces without_zeros row key
+unfolding pieces without_zeros letters_in row_of row key
 returns-clause-laws c = record {
   one_reading = one_reading;
   rows_zero_free = row_free;
-  keys_short = key_few;
+  keys_short = λ t n. (key_by_letters t n, few_letters t.utf8 n);
+  same_keys = same_keys;
   key_of_cab = refl;
   key_of_chad = refl;
   key_of_large = refl;

@@ -16,10 +16,16 @@ invariant-loop-piece-2 l =
     (goal.iterator-loop-piece-2).can_next l.piece-iterator × (goal.iterator-loop-piece-2).is_finite l.piece-iterator
     × Walked l.fn.older l.fn.old (Counted l.fn.old (rules_of l.fn.older) (rules_of l.fn.newer)) l.piece-iterator
 
--- it stands to each other one as before
+-- and so is what is met of the newer once more
 abbrev pub invariant-loop-piece-3 : goal.invariant-loop-piece-3
 invariant-loop-piece-3 l =
     (goal.iterator-loop-piece-3).can_next l.piece-iterator × (goal.iterator-loop-piece-3).is_finite l.piece-iterator
+    × Walked l.fn.newer l.fn.old (Counted l.fn.old (rules_of l.fn.older) (rules_of l.fn.newer)) l.piece-iterator
+
+-- it stands to each other one as before
+abbrev pub invariant-loop-piece-4 : goal.invariant-loop-piece-4
+invariant-loop-piece-4 l =
+    (goal.iterator-loop-piece-4).can_next l.piece-iterator × (goal.iterator-loop-piece-4).is_finite l.piece-iterator
     × Walked l.fn.older l.fn.old (Placed l.fn.old (rules_of l.fn.older) (rules_of l.fn.newer)) l.piece-iterator
 
 -- one of them, to those met so far

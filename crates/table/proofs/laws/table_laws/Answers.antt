@@ -1,4 +1,4 @@
-use Rattle.table.proofs.Lawful.{exactly_tables, first_foreign, first_twice, held_are_tables, just_pairs, letters_weigh, pairs_listed, same_refusal, valley_says}
+use Rattle.table.proofs.Lawful.{exactly_tables, first_foreign, first_twice, held_are_tables, just_pairs, letters_listed, letters_weigh, pairs_listed, same_refusal, valley_says}
 use Rattle.table.proofs.laws.table_laws.Goals as goal
 
 pub returns-clause-laws : goal.returns-clause-laws
@@ -9,6 +9,7 @@ returns-clause-laws c = record {
   just_pairs = just_pairs;
   letters_weigh = letters_weigh;
   held_are_tables = held_are_tables;
+  letters_listed = letters_listed;
   pairs_listed = pairs_listed;
   valley_says = valley_says;
   same_refusal = same_refusal;

@@ -11,7 +11,7 @@ invariant_of-self c =
     let b = c.args.self.now in
     let e = c.reserve.ensures.items in
     record {
-      sound = same_sound _ _ _ _ b.sound refl e;
+      sound = same_sound _ _ _ _ _ _ b.sound refl refl e;
       few = let f = b.few in let l = ap length e in omega arith;
       listed = same_listed _ _ _ _ _ _ _ refl refl e b.listed;
       none = b.none;
@@ -24,7 +24,7 @@ invariant_of-self-in-Break-branch-2 c =
     let t = c.in_err-extend_from_slice.ensures.items in
     let e = c.reserve.ensures.items in
     record {
-      sound = same_sound _ _ _ _ b.sound t e;
+      sound = same_sound _ _ _ _ _ _ b.sound refl t e;
       few = let f = b.few in let l = ap length e in omega arith;
       listed = same_listed _ _ _ _ _ _ _ refl t e b.listed;
       none = b.none;
@@ -36,8 +36,8 @@ invariant_of-self-2 c =
     let b = c.args.self.now in
     let behind = c.in_ok-push.ensures.items ∙ ap (λ xs. xs ++ c.args.end ∷ []) c.reserve.ensures.items in
     record {
-      sound = same_sound _ _ _ _ (sound_more b.text.items b.starts.items c.args.name.now b.sound c.requires.long)
-          c.in_ok-extend_from_slice.ensures.items (behind ∙ ap (λ e. b.starts.items ++ e ∷ []) c.requires.end);
+      sound = same_sound _ _ _ _ _ _ (sound_more _ b.text.items b.starts.items c.args.name.now b.sound c.requires.name)
+          refl c.in_ok-extend_from_slice.ensures.items (behind ∙ ap (λ e. b.starts.items ++ e ∷ []) c.requires.end);
       few = let l = ap length behind ∙ length-append b.starts.items (c.args.end ∷ []) in let f = c.requires.few in omega arith;
       listed = none_listed _ c.let_go.ensures.0;
       none = λ e. c.let_go.ensures.0;
@@ -49,5 +49,5 @@ returns c =
     let b = c.args.self.now in
     let text = c.in_ok-extend_from_slice.ensures.items in
     let starts = c.in_ok-push.ensures.items ∙ (ap (λ xs. xs ++ c.args.end ∷ []) c.reserve.ensures.items ∙ ap (λ e. b.starts.items ++ e ∷ []) c.requires.end) in
-    let names = ap₂ (λ t s. map (name_of t s) (range_with_len 0 (length s - 1))) text starts ∙ names_more b.text.items b.starts.items c.args.name.now b.sound c.requires.long in
+    let names = ap₂ (λ t s. map (name_of t s) (range_with_len 0 (length s - 1))) text starts ∙ names_more _ b.text.items b.starts.items c.args.name.now b.sound in
     (refl, text, starts, names, c.let_go.ensures.1)

@@ -1,16 +1,9 @@
-use Rattle.std.proofs.Common.{rules, ap, arith, ◌≡◌, ◌++◌, ◌∷◌, [], length}
+use Rattle.std.proofs.Common.{rules, ◌≡◌, ◌++◌, ◌∷◌, [], length}
 use Rattle.keys.specs.Rows.{key}
 use Rattle.table.specs.Meaning.{rules_of}
 use Rattle.catalogue.proofs.Keys.{key_more}
-use Rattle.catalogue.proofs.Listing.{short}
 use Rattle.catalogue.specs.Lists.{name_of}
 use Rattle.catalogue.proofs.names.Names.keys.Goals as goal
-
-pub push_key-requires : goal.push_key-requires
-push_key-requires c =
-    let l = short c.args.self.now.text.now c.args.self.now.starts.now c.args.self.now.sound c.loop-number.number (search rules) in
-    let e = ap length c.at.ensures in
-    omega (arith, l, e)
 
 pub loop-number-preserved : goal.loop-number-preserved
 loop-number-preserved c =

@@ -3,6 +3,7 @@ use Rattle.keys.specs.Reading.{row_left}
 use Rattle.keys.specs.Rows.{row}
 use Rattle.keys.specs.declared.level.Level.TheVariants.{Primary}
 use Rattle.keys.proofs.Bounding.{row_few}
+use Rattle.keys.proofs.Lettering.{few_letters}
 use Rattle.table.specs.Meaning.{rules_of}
 use Rattle.order.proofs.Asking.{one_stored}
 use Rattle.order.proofs.asked.Asked.new.Goals as goal
@@ -12,8 +13,9 @@ loop-weight-init c =
     let e : row_left c.into_iter-weight-iterator.result ≡ row Primary (rules_of c.args.table.now) c.args.ask.now = search rules in
     let f = ap length e in
     let l = row_few Primary (rules_of c.args.table.now) c.args.ask.now in
+    let n = few_letters (rules_of c.args.table.now).utf8 c.args.ask.now in
     let s = c.if-stored.true in
-    (tt, tt, e, omega (arith, f, l, s))
+    (tt, tt, e, omega (arith, f, l, n, s))
 
 pub store-count-requires : goal.store-count-requires
 store-count-requires c =

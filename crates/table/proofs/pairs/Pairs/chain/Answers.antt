@@ -1,22 +1,8 @@
-use Rattle.std.proofs.Common.{◌≡◌, ◌+◌, is_some, ap, sym, ◌∙◌, arith}
+use Rattle.std.proofs.Common.{◌≡◌, ◌+◌, is_some, ap, sym, ◌∙◌}
 use Rattle.table.specs.Refusals.{repeated}
-use Rattle.table.proofs.Chunks.{behind_chunk, chunk_there, first_fits, first_in, not_foreign, second_fits, second_in}
+use Rattle.table.proofs.Chunks.{behind_chunk, chunk_there, first_in, second_in}
 use Rattle.table.proofs.Firsts.{first_is}
 use Rattle.table.proofs.pairs.Pairs.chain.Goals as goal
-
-pub overflow_cast-first : goal.overflow_cast-first
-overflow_cast-first c =
-    let i = c.loop-place.invariant in
-    let s = c.in-Some.ensures.steps.0.1 in
-    let l = first_fits c.args.self.now.numbers.now c.loop-place.self.count _ _ (sym i.3 ∙ s.0) (s.1 ∙ i.2) c.requires.known in
-    omega arith
-
-pub overflow_cast-second : goal.overflow_cast-second
-overflow_cast-second c =
-    let i = c.loop-place.invariant in
-    let s = c.in-Some.ensures.steps.0.1 in
-    let l = second_fits c.args.self.now.numbers.now c.loop-place.self.count _ _ (sym i.3 ∙ s.0) (s.1 ∙ i.2) c.requires.known in
-    omega arith
 
 pub returns-then-is_some : goal.returns-then-is_some
 returns-then-is_some c =
@@ -32,12 +18,6 @@ returns-then-is_some c =
     let t = rw (i.0, first_in ps k _ _ e l, second_in ps k _ _ e l) at o in
     let f = first_is (repeated ps) k (rw (i.0) at a) (sym t) _ (chunk_there ps k _ _ e l) in
     rw (f, n)
-
-pub link-requires-clause-known : goal.link-requires-clause-known
-link-requires-clause-known c =
-    let i = c.loop-place.invariant in
-    let s = c.in-Some.ensures.steps.0.1 in
-    rw (i.0) (not_foreign c.args.self.now.numbers.now c.loop-place.self.count _ _ (sym i.3 ∙ s.0) (s.1 ∙ i.2) c.requires.known)
 
 pub loop-place-preserved : goal.loop-place-preserved
 loop-place-preserved c =

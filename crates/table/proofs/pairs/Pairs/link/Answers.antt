@@ -1,8 +1,7 @@
-use Rattle.std.proofs.Common.{◌≡◌, ◌∙◌, ap, set, true, length, sym, arith, rules}
-use Rattle.table.specs.Refusals.{foreign, repeated}
+use Rattle.std.proofs.Common.{◌≡◌, ◌%◌, ◌∙◌, ap, set, true, length, sym, arith, rules}
+use Rattle.table.specs.Refusals.{repeated}
 use Rattle.table.proofs.Chaining.{linked_more, marks_more}
 use Rattle.table.specs.Numbers.{first_at}
-use Rattle.table.proofs.Places.{first_known}
 use Rattle.table.proofs.Firsts.{none_more}
 use Rattle.table.proofs.pairs.Pairs.link.Goals as goal
 
@@ -16,11 +15,10 @@ invariant_of-self c =
     let m = linked_more ps p.count p.heads p.links (omega arith) (record { begun = p.begun; linked = p.linked }) in
     let n = rw (e, sym b) at m in
     let f = c.requires.first in
-    let k = ap (λ ms. set ms (first_at ps p.count) true) p.marked ∙ marks_more ps p.count (first_known ps p.count c.requires.known) in
+    let k = ap (λ ms. set ms (first_at ps p.count % 256) true) p.marked ∙ marks_more ps p.count in
     record {
       within = omega arith;
       few = omega arith;
-      known = none_more (foreign ps) p.count p.known c.requires.known;
       apart = none_more (repeated ps) p.count p.apart c.requires.apart;
       marked = rw f at k;
       begun = n.begun;

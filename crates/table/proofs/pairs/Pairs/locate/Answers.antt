@@ -1,13 +1,12 @@
-use Rattle.std.proofs.Common.{refl, sym, ap, get_or, false, ◌∙◌, arith}
+use Rattle.std.proofs.Common.{◌%◌, refl, sym, ap, get_or, false, ◌∙◌, arith}
 use Rattle.table.specs.Chain.{bucket}
 use Rattle.table.proofs.Chaining.{below, bucket_below, follows_head, follows_link, found, head_at, link_lower, mark_at, none_begun, nowhere}
 use Rattle.table.proofs.pairs.Pairs.locate.Goals as goal
 
-pub returns-then-not-self-first : goal.returns-then-not-self-first
-returns-then-not-self-first c =
+pub returns-then-not-may_begin : goal.returns-then-not-may_begin
+returns-then-not-may_begin c =
     let p = c.args.self.now in
-    let m = sym (mark_at p.numbers.now p.count c.args.first (omega arith)) ∙ (ap (λ ms. get_or ms c.args.first false) (sym p.marked) ∙ c.if-not-self-first.true) in
-    record { place = none_begun p.numbers.now p.count c.args.first c.args.second m; bound = tt }
+    record { place = none_begun p.numbers.now p.count c.args.first c.args.second (sym c.may_begin.ensures ∙ c.if-not-may_begin.true); bound = tt }
 
 pub loop-at-init : goal.loop-at-init
 loop-at-init c =

@@ -1,5 +1,5 @@
 use Rattle.std.proofs.Common.{arith, sym}
-use Rattle.table.specs.Refusals.{foreign, repeated}
+use Rattle.table.specs.Refusals.{repeated}
 use Rattle.table.proofs.Chaining.{no_heads, no_marks}
 use Rattle.table.proofs.Firsts.{none_yet}
 use Rattle.table.proofs.pairs.Pairs.new.Goals as goal
@@ -10,7 +10,6 @@ invariant_of-result c =
     record {
       within = omega arith;
       few = omega arith;
-      known = none_yet (foreign ps);
       apart = none_yet (repeated ps);
       marked = sym (no_marks ps);
       begun = sym (no_heads ps);

@@ -1,4 +1,5 @@
-use Rattle.std.proofs.Common.{length, sym, ◌∙◌}
+use Rattle.std.proofs.Common.{length, refl, sym, ◌∙◌}
+use Rattle.table.specs.Entries.{ascends}
 use Rattle.table.proofs.Refusing.{by_shape, fifth, has_foreign, no_refusal, refused, shape_sound, taken, turned_away, twice_left}
 use Rattle.table.proofs.view.Table.check.Goals as goal
 
@@ -22,6 +23,18 @@ returns-in_err-chain c =
     let b = c.new-pairs.ensures.0 in
     let t = c.in_err-chain.ensures in
     refused _ _ _ _ _ c.from_residual-in_err-chain.ensures.1 (twice_left _ _ _ o (rw n at f) ∙ rw (b, n) at t)
+
+pub invariant_of-result-clause-known : goal.invariant_of-result-clause-known
+invariant_of-result-clause-known c =
+    let f = sym c.first_foreign.ensures ∙ c.in_default.is in
+    let b = c.new-pairs.ensures.0 in
+    let q = c.in_ok-chain.ensures in
+    let p = rw b at q in
+    rw (p.0, p.1) f
+
+pub invariant_of-result-clause-ascends : goal.invariant_of-result-clause-ascends
+unfolding ascends
+invariant_of-result-clause-ascends c = refl
 
 pub returns : goal.returns
 returns c =

@@ -15,4 +15,4 @@ returns-in_default-clause-writes g c = λ plain ok.
     ]
     in
     let w = rw (c.in_radix.ensures, c.laid_out.ensures) at c.write-in_default.ensures.writes in
-    subst (λ (l : List ℕ). HasWritten g.W.Write.write_str_gives c.args.f.now l c.write-in_default.new.self) (by_number a (omega arith) t) (w plain ok)
+    subst (λ (l : List ℕ). HasWritten g.W.Write.write_str_gives c.args.f.now l c.write-in_default.new.self) (by_number a t) (w plain ok)

@@ -1,0 +1,33 @@
+use Rattle.std.proofs.Common.{◌≡◌, replicate, vec_items, arith}
+use Rattle.table.specs.Entries.{ascends}
+use Rattle.table.specs.Refusals.{first_place}
+use Rattle.table.proofs.Saying.{blank_rules}
+use Rattle.table.proofs.Setting.{none_weigh}
+use Rattle.table.proofs.buffer.TableBuf.blank.Goals as goal
+
+pub invariant_of-result : goal.invariant_of-result
+unfolding first_place ascends
+invariant_of-result c =
+    let l : vec_items c.in_ok-letters.letters ≡ replicate 768 0 = c.in_ok-letters.ensures.items_if_clones_equal (λ y e. e) in
+    let o = c.new.ensures.items in
+    let p = c.new-2.ensures.items in
+    record {
+      whole = rw l;
+      fives = rw p;
+      few = rw p (omega arith);
+      known = rw p;
+      apart = rw p;
+      ascends = rw o;
+      others_weigh = rw o;
+      bytes = λ b. o;
+    }
+
+pub returns : goal.returns
+returns c =
+    let l : vec_items c.in_ok-letters.letters ≡ replicate 768 0 = c.in_ok-letters.ensures.items_if_clones_equal (λ y e. e) in
+    let o = c.new.ensures.items in
+    let p = c.new-2.ensures.items in (
+      rw (l, o, p) (blank_rules c.args.utf8),
+      rw p,
+      rw (l, o) none_weigh,
+    )

@@ -1,0 +1,51 @@
+// The entries of letters above 255, in the order of their letters.
+ghost use Rattle.std.specs.Prelude.{◌≡◌, ◌≤◌, length, true};
+ghost use Rattle.table.specs.Entries.{ascends, below};
+ghost use Rattle.table.specs.Rules.{letter_weighs, weights_among};
+
+use crate::layout::weights_at;
+use crate::piece::{Letter, Weights};
+
+// What a letter weighs, by the weights of letters below 256 and the entries of others.
+pub(crate) fn letter_weights(letters: &[u16], others: &[Letter], letter: u32) -> Weights
+    requires whole { length letters.now ≡ 768 }
+    requires ascends { ascends others.now ≡ true }
+    ensures { result ≡ letter_weighs letters.now others.now letter }
+{
+    if letter < 256 {
+        return weights_at(letters, 3 * letter as usize);
+    }
+    weights_among(others, letter)
+}
+
+// What a letter weighs; nothing where it has no entry.
+#[inline(never)]
+fn weights_among(others: &[Letter], letter: u32) -> Weights
+    requires { ascends others.now ≡ true }
+    ensures { result ≡ weights_among others.now letter }
+{
+    match others.get(place_for(others, letter)) {
+        Some(other) if other.letter == letter => other.weights,
+        _ => Weights::from([0, 0, 0]),
+    }
+}
+
+// How many entries are of letters below this one, and so where its own stands, or would stand. What is left is halved with
+// each look.
+pub(crate) fn place_for(others: &[Letter], letter: u32) -> usize
+    requires { ascends others.now ≡ true }
+    ensures place { result ≡ below others.now letter }
+    ensures within { result ≤ length others.now }
+{
+    let mut low = 0;
+    let mut high = others.len();
+    while low < high {
+        let middle = low + (high - low) / 2;
+        if others[middle].letter < letter {
+            low = middle + 1;
+        } else {
+            high = middle;
+        }
+    }
+    low
+}

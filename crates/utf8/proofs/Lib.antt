@@ -1,0 +1,4 @@
+pub mod Numbers
+pub mod Letters
+pub mod Counting
+pub mod Lawful

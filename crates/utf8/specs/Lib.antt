@@ -1,0 +1,4 @@
+pub mod Letters
+pub mod Ranges
+pub mod Reading
+pub mod Laws
