@@ -11,14 +11,15 @@ use Rattle.catalogue.specs.declared.fault.NotTaken.{NotTaken}
 use Rattle.catalogue.specs.declared.fault.NotTaken.TheVariants.{Name, Full}
 use Rattle.catalogue.specs.declared.view.Catalogue.{Catalogue}
 use Rattle.keys.specs.Refusals.{name_refusal}
-use Rattle.table.specs.Buffer.{Added, LetterAdded, buffer_letters, buffer_pairs, buffer_rules, letter_refusal, pair_refusal}
+use Rattle.table.specs.Buffer.{Added, EntryIn, LongIn, PairIn, buffer_letters, buffer_rules, buffer_runs, letter_refusal, long_refusal, pair_refusal}
 use Rattle.table.specs.Rules.{Rules}
 use Rattle.table.specs.declared.buffer.TableBuf.{TableBuf}
 use Rattle.table.specs.declared.fault.Failure.{Failure}
 use Rattle.table.specs.declared.fault.Failure.TheVariants.{NoMemory, Refused}
 use Rattle.table.specs.declared.fault.Refusal.{Refusal}
-use Rattle.table.specs.declared.piece.Letter.{Letter}
-use Rattle.table.specs.declared.piece.Pair.{Pair}
+use Rattle.pieces.specs.declared.piece.Letter.{Letter}
+use Rattle.pieces.specs.declared.piece.Long.{Long}
+use Rattle.pieces.specs.declared.piece.Pair.{Pair}
 
 -- all names, one behind the other, and where each begins, with the end behind
 abbrev pub held_text : CatalogueBuf → List ℕ
@@ -85,19 +86,25 @@ abbrev pub TablePut : CatalogueBuf → TableBuf → Result Unit ListFault → Ca
 TablePut b t (Ok x) c = (names_fault t.utf8 (held_text b) (held_starts b) ≡ None) × TableSet b t c
 TablePut b t (Err why) c = (names_fault t.utf8 (held_text b) (held_starts b) ≡ Some why) × (c ≡ b)
 
--- A letter is added as the table says, and the names are the same. What is turned away changes nothing; where memory is wanting
--- names and list are as they were, and so is what the table says.
-abbrev pub LetterPut : CatalogueBuf → Letter → Result Unit (Failure Refusal) → CatalogueBuf → Type 0
-LetterPut b e (Ok x) c = LetterAdded b.table e (Ok tt) c.table × SameNames b c × (c.arranged ≡ false)
-LetterPut b e (Err (Refused why)) c = (letter_refusal (held_rules b) (buffer_letters b.table) e ≡ Some why) × (c ≡ b)
-LetterPut b e (Err NoMemory) c = LetterAdded b.table e (Err NoMemory) c.table × Kept b c
+-- An entry is added to the table as the table says: this speaks against it, and that holds of the table with it. The names are the
+-- same. What is turned away changes nothing; where memory is wanting names and list are as they were, and so is what the table
+-- says.
+abbrev pub EntryPut : (refusal : Option Refusal) → (TableBuf → Type 0) → CatalogueBuf → Result Unit (Failure Refusal) → CatalogueBuf → Type 0
+EntryPut refusal there b (Ok x) c = Added refusal there b.table (Ok tt) c.table × SameNames b c × (c.arranged ≡ false)
+EntryPut refusal there b (Err (Refused why)) c = (refusal ≡ Some why) × (c ≡ b)
+EntryPut refusal there b (Err NoMemory) c = Added refusal there b.table (Err NoMemory) c.table × Kept b c
 
--- A pair is added as the table says, and the names are the same. What is turned away changes nothing; where memory is wanting
--- names and list are as they were, and so is what the table says.
-abbrev pub PairAdded : CatalogueBuf → Pair → Result Unit (Failure Refusal) → CatalogueBuf → Type 0
-PairAdded b p (Ok x) c = Added b.table p (Ok tt) c.table × SameNames b c × (c.arranged ≡ false)
-PairAdded b p (Err (Refused why)) c = (pair_refusal (held_rules b) (length (buffer_pairs b.table)) p ≡ Some why) × (c ≡ b)
-PairAdded b p (Err NoMemory) c = Added b.table p (Err NoMemory) c.table × Kept b c
+-- a letter is added
+abbrev pub LetterPut : CatalogueBuf → Letter → Result Unit (Failure Refusal) → CatalogueBuf → Type 0
+LetterPut b e r c = EntryPut (letter_refusal (held_rules b) (buffer_letters b.table) e) (EntryIn b.table e) b r c
+
+-- a pair is
+abbrev pub PairPut : CatalogueBuf → Pair → Result Unit (Failure Refusal) → CatalogueBuf → Type 0
+PairPut b p r c = EntryPut (pair_refusal (held_rules b) (buffer_runs b.table) p) (PairIn b.table p) b r c
+
+-- a longer run is
+abbrev pub LongPut : CatalogueBuf → Long → Result Unit (Failure Refusal) → CatalogueBuf → Type 0
+LongPut b e r c = EntryPut (long_refusal (held_rules b) (buffer_runs b.table) e) (LongIn b.table e) b r c
 
 -- the names are in order, and names and table are the same; or there is no memory where they are not yet, and nothing changes
 abbrev pub PutInOrder : CatalogueBuf → Result Unit AllocError → CatalogueBuf → Type 0

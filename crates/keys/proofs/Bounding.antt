@@ -1,22 +1,26 @@
 -- How long rows and keys are at the most, and that no 0 stands in a row.
-use Rattle.std.proofs.Common.{ℕ, ◌+◌, ◌*◌, ◌≤◌, Bool, eqb, List, [], ◌∷◌, ◌++◌, map, length, arith}
+use Rattle.std.proofs.Common.{ℕ, zero, suc, ◌+◌, ◌-◌, ◌*◌, ◌≤◌, Bool, eqb, List, [], ◌∷◌, ◌++◌, map, length, arith}
 use Rattle.std.proofs.lemmas.List.{length-append, length-map}
 use Rattle.std.proofs.lemmas.Bool.{cond_both}
 use Rattle.std.proofs.lemmas.Bool.Decides.{nat_tests}
 use Rattle.table.specs.Rules.{Rules}
 use Rattle.keys.specs.declared.level.Level.{Level}
 use Rattle.keys.specs.declared.level.Level.TheVariants.{Primary, Secondary, Tertiary}
-use Rattle.keys.specs.Pieces.{pieces}
+use Rattle.keys.specs.Pieces.{pieces, pieces_behind, taken}
 use Rattle.keys.specs.Laws.{ZeroFree}
 use Rattle.keys.specs.Letters.{letters_in}
 use Rattle.keys.specs.Rows.{key, row, row_of, weight, without_zeros}
 use Rattle.keys.proofs.Lettering.{few_letters}
 
+few_behind : (j : List ℕ → Bool) (k : ℕ) (n : List ℕ) → length (pieces_behind j k n) ≤ length n
+unfolding pieces_behind
+few_behind j zero [] = omega arith
+few_behind j (suc k) [] = omega arith
+few_behind j (suc k) (a ∷ n) = let ih = few_behind j k n in omega arith
+few_behind j zero (a ∷ n) = let ih = few_behind j (taken j (a ∷ n) - 1) n in omega arith
+
 pieces_few : (j : List ℕ → Bool) (n : List ℕ) → length (pieces j n) ≤ length n
-unfolding pieces
-pieces_few j [] = omega arith
-pieces_few j (a ∷ []) = omega arith
-pieces_few j (a ∷ (b ∷ xs)) = let two = pieces_few j xs in let one = pieces_few j (b ∷ xs) in grind (arith, nat_tests)
+pieces_few j n = few_behind j 0 n
 
 zeros_fewer : (xs : List ℕ) → length (without_zeros xs) ≤ length xs
 unfolding without_zeros

@@ -1,12 +1,11 @@
 -- Names read letter by letter.
-use Rattle.std.proofs.Common.{◌≡◌, ℕ, ◌<◌, ◌≤◌, Bool, true, false, List, [], ◌∷◌, ◌++◌, length, drop, ltb, ◌||◌, Some, None, Option, refl, sym, ap, ◌∙◌, arith}
-use Rattle.std.proofs.lemmas.List.{length-drop}
+use Rattle.std.proofs.Common.{◌≡◌, ℕ, ◌<◌, ◌≤◌, Bool, true, false, List, [], ◌∷◌, ◌++◌, length, drop, ltb, ◌||◌, Some, None, refl, sym, ap, ◌∙◌, arith}
 use Rattle.std.proofs.lemmas.Bool.{ltb-true, or_parts, true≢false}
 use Rattle.std.proofs.lemmas.Option.{same_Some}
 use Rattle.utf8.specs.Reading.{first_letter}
 use Rattle.utf8.proofs.Letters.{first_one, first_read, letters_few, letters_none, none_read, parted, small, starts}
 use Rattle.keys.specs.Laws.{all_small}
-use Rattle.keys.specs.Letters.{begins_in, behind_first, cut_off, first_in, letters_in, one_byte}
+use Rattle.keys.specs.Letters.{begins_in, first_in, letters_in, one_byte}
 
 -- what the first letter says of all
 pub read_first : (u : Bool) (n : List ℕ) (a k : ℕ) → first_in u n ≡ Some (a, k) → (letters_in u n ≡ a ∷ letters_in u (drop k n)) × (0 < k) × (k ≤ length n)
@@ -65,25 +64,6 @@ pub small_letters : (u : Bool) (n : List ℕ) → all_small n ≡ true → lette
 unfolding letters_in
 small_letters true n h = small n h
 small_letters false n h = refl
-
--- behind the first letter some bytes have been passed over
-pub cut_further : (u : Bool) (n : List ℕ) → (k : ℕ) × (behind_first u n ≡ drop k n)
-cut_further u n = go (first_in u n) refl
-  where
-    go : (r : Option (ℕ × ℕ)) → first_in u n ≡ r → (k : ℕ) × (cut_off r n ≡ drop k n)
-    go None e = (0, sym (read_none u n e))
-    go (Some (a, k)) e = (k, refl)
-
--- where there are letters the first of them is read
-pub front_read : (u : Bool) (n : List ℕ) (a : ℕ) (ls : List ℕ) → letters_in u n ≡ a ∷ ls → (ls ≡ letters_in u (behind_first u n)) × (length (behind_first u n) < length n)
-front_read u n a ls h = go (first_in u n) refl
-  where
-    go : (r : Option (ℕ × ℕ)) → first_in u n ≡ r → (ls ≡ letters_in u (cut_off r n)) × (length (cut_off r n) < length n)
-    go None e = absurd (let l = ap length (sym (ap (letters_in u) (read_none u n e) ∙ no_letters u) ∙ h) in omega arith)
-    go (Some (b, k)) e =
-        let r = read_first u n b k e in
-        let l = length-drop k n in
-        (ap (drop 1) (sym h ∙ r.0), let f = r.1 in let g = r.2 in omega arith)
 
 -- a name is read in two parts where a letter may begin
 pub parted_in : (u : Bool) (xs ys : List ℕ) → begins_in u ys ≡ true → letters_in u (xs ++ ys) ≡ letters_in u xs ++ letters_in u ys

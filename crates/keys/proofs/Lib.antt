@@ -7,3 +7,4 @@ pub mod Bounding
 pub mod Entering
 pub mod Filling
 pub mod Gathering
+pub mod Running

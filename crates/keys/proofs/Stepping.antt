@@ -1,80 +1,44 @@
 -- Steps along a row: what one takes, and what is left then.
-use Rattle.std.proofs.Common.{◌≡◌, ℕ, ◌+◌, ◌<◌, Bool, true, false, cond, eqb, List, [], ◌∷◌, length, drop, Some, None, Option, Bor, sym, refl, ap, ◌∙◌, arith}
+use Rattle.std.proofs.Common.{◌≡◌, ℕ, ◌+◌, ◌<◌, Bool, true, false, cond, eqb, List, [], ◌∷◌, length, take, drop, Some, None, Option, Bor, subst, sym, refl, ap, ◌∙◌, arith}
 use Rattle.std.proofs.lemmas.Bool.{cond-true, eq-eqb}
 use Rattle.std.proofs.lemmas.Bool.Decides.{nat_tests}
 use Rattle.std.proofs.lemmas.List.{drop-drop, length-drop}
-use Rattle.std.proofs.lemmas.Option.{none-some}
-use Rattle.table.specs.declared.piece.Weights.{Weights}
+use Rattle.pieces.specs.declared.piece.Weights.{Weights}
 use Rattle.table.specs.Meaning.{rules_of}
-use Rattle.table.specs.Rules.{BeginsNone, Rules, contraction, counts}
+use Rattle.table.specs.Rules.{Rules}
+use Rattle.pieces.specs.Runs.{counts}
 use Rattle.keys.specs.declared.level.Level.{Level}
 use Rattle.keys.specs.declared.level.Level.TheVariants.{Primary, Secondary, Tertiary}
 use Rattle.keys.specs.declared.walk.Walk.{Walk}
-use Rattle.keys.specs.Pieces.{pieces}
-use Rattle.keys.specs.Letters.{behind_first, first_in, letters_in}
+use Rattle.keys.specs.Pieces.{pieces, pieces_behind, taken}
+use Rattle.keys.specs.Letters.{first_in, letters_in}
 use Rattle.keys.specs.Rows.{on, row, row_of, weight, without_zeros}
-use Rattle.keys.specs.Reading.{AreShort, Stepped, WalkedOn, front_pair, left_of, next_pair, with_first}
-use Rattle.keys.proofs.Lettering.{cut_further, front_read, no_letters, read_first, read_none}
-use Rattle.keys.proofs.Pieces.{apart, one_joins, one_taken, one_weighs, two_taken}
+use Rattle.keys.specs.Reading.{AreShort, PieceAt, RunAt, Stepped, WalkedOn, left_of}
+use Rattle.keys.proofs.Lettering.{no_letters, read_first, read_none}
+use Rattle.keys.proofs.Pieces.{one_piece}
 
 module _ (l : Level) (t : Rules) where
   -- a row of which a piece that weighs x was read, and n is left
   abbrev pub led : (x : ℕ) (n : List ℕ) → List ℕ
   led x n = cond (eqb x 0) (row l t n) (x ∷ row l t n)
 
-  taken : (x : ℕ) (m p ls : List ℕ) (n : List ℕ) → pieces t.joins (letters_in t.utf8 m) ≡ p ∷ pieces t.joins ls → ls ≡ letters_in t.utf8 n → x ≡ weight l t p → row l t m ≡ led x n
-  unfolding row row_of without_zeros
-  taken x m p ls n e f v = rw (e, f, sym v)
-
   pub at_end : (n : List ℕ) → length n ≡ 0 → row l t n ≡ []
-  unfolding row row_of without_zeros pieces
+  unfolding row row_of without_zeros pieces_behind
   at_end [] h = let e = no_letters t.utf8 in rw e
   at_end (a ∷ n) h = absurd (omega arith)
 
-  pub at_letter : (x a : ℕ) (m ls n : List ℕ) (w : Weights) → letters_in t.utf8 m ≡ a ∷ ls → ls ≡ letters_in t.utf8 n
-      → front_pair t (letters_in t.utf8 m) ≡ None → w ≡ t.weighs (a ∷ []) → x ≡ on l w → row l t m ≡ led x n
-  at_letter x a m ls n w h f none e v =
-      taken x m (a ∷ []) ls n (ap (pieces t.joins) h ∙ one_taken t.joins a ls (apart t a ls (sym (ap (front_pair t) h) ∙ none))) f (v ∙ ap (on l) e)
+  -- a piece of a letter or of more was taken
+  pub at_piece : (a : ℕ) (m ls n : List ℕ) (w : Weights) → letters_in t.utf8 m ≡ a ∷ ls → PieceAt t (a ∷ ls) (letters_in t.utf8 n) w → row l t m ≡ led (on l w) n
+  unfolding row row_of without_zeros
+  at_piece a m ls n w h p =
+      let k = taken t.joins (a ∷ ls) in
+      let e = ap (pieces t.joins) h ∙ one_piece t.joins a ls in
+      let v : weight l t (take k (a ∷ ls)) ≡ on l w = ap (on l) (sym p.0) in
+      rw (e, ← p.1, v)
 
-  pub at_pair : (x a b : ℕ) (m ls n : List ℕ) (w : Weights) → letters_in t.utf8 m ≡ a ∷ (b ∷ ls) → ls ≡ letters_in t.utf8 n
-      → contraction t (a ∷ (b ∷ [])) ≡ Some w → x ≡ on l w → row l t m ≡ led x n
-  at_pair x a b m ls n w h f e v =
-      let run = a ∷ (b ∷ []) in
-      taken x m run ls n (ap (pieces t.joins) h ∙ two_taken t.joins a b ls (one_joins t run w e)) f (v ∙ ap (on l) (sym (one_weighs t run w e)))
-
--- where the first two letters are one together, they are there
-pub record Fronted (t : Rules) (n : List ℕ) (w : Weights) : Type 0 where
-  pub first : ℕ
-  pub second : ℕ
-  pub others : List ℕ
-  pub are : letters_in t.utf8 n ≡ first ∷ (second ∷ others)
-  pub behind : others ≡ letters_in t.utf8 (behind_first t.utf8 (behind_first t.utf8 n))
-  pub fewer : length (behind_first t.utf8 (behind_first t.utf8 n)) < length n
-  pub weigh : contraction t (first ∷ (second ∷ [])) ≡ Some w
-
-pub fronted : (t : Rules) (n : List ℕ) (w : Weights) → front_pair t (letters_in t.utf8 n) ≡ Some w → Fronted t n w
-fronted t n w = go (letters_in t.utf8 n) refl
-  where
-    go : (ls : List ℕ) → letters_in t.utf8 n ≡ ls → front_pair t ls ≡ Some w → Fronted t n w
-    go [] h e = absurd (none-some w e)
-    go (a ∷ []) h e = absurd (none-some w e)
-    go (a ∷ (b ∷ ls)) h e =
-        let f = front_read t.utf8 n a (b ∷ ls) h in
-        let g = front_read t.utf8 (behind_first t.utf8 n) b ls (sym f.0) in
-        record { first = a; second = b; others = ls; are = h; behind = g.0; fewer = (let x = f.1 in let y = g.1 in omega arith); weigh = e }
-
--- a letter that begins no pair
-pub begins_none : (t : Rules) (a : ℕ) → BeginsNone t a → (o : Option (ℕ × ℕ)) → with_first t a o ≡ None
-begins_none t a h None = refl
-begins_none t a h (Some (b, k)) = h b
-
--- a letter and what is read behind it are the first two letters
-pub as_front : (t : Rules) (n m : List ℕ) (a : ℕ) → letters_in t.utf8 n ≡ a ∷ letters_in t.utf8 m → with_first t a (first_in t.utf8 m) ≡ front_pair t (letters_in t.utf8 n)
-as_front t n m a h = go (first_in t.utf8 m) refl ∙ ap (front_pair t) (sym h)
-  where
-    go : (r : Option (ℕ × ℕ)) → first_in t.utf8 m ≡ r → with_first t a r ≡ front_pair t (a ∷ letters_in t.utf8 m)
-    go None e = sym (ap (λ ls. front_pair t (a ∷ ls)) (ap (letters_in t.utf8) (read_none t.utf8 m e) ∙ no_letters t.utf8))
-    go (Some (b, k)) e = sym (ap (λ ls. front_pair t (a ∷ ls)) (read_first t.utf8 m b k e).0)
+-- a letter that was read, with which no run is met
+pub letter_at : (t : Rules) (a : ℕ) (n m : List ℕ) (w : Weights) → letters_in t.utf8 n ≡ m → taken t.joins (a ∷ m) ≡ 1 → w ≡ t.weighs (a ∷ []) → PieceAt t (a ∷ m) (letters_in t.utf8 n) w
+letter_at t a n m w h e v = (v ∙ ap (λ k. t.weighs (take k (a ∷ m))) (sym e), h ∙ ap (λ k. drop k (a ∷ m)) (sym e))
 
 -- what doesn't count is 0 on each level
 pub none_on : (w : Weights) (l : Level) → counts w ≡ false → on l w ≡ 0
@@ -104,33 +68,54 @@ module _ (w : Walk) where
   pub ended_read : first_in rules.utf8 w.rest.now ≡ None → Stepped w false w
   ended_read e = ended (ap length (read_none rules.utf8 w.rest.now e))
 
+  pub piece_read : (a k : ℕ) (ls : List ℕ) (rest : Bor (List ℕ)) (v : Weights) → letters_in rules.utf8 w.rest.now ≡ a ∷ ls → PieceAt rules (a ∷ ls) (letters_in rules.utf8 rest.now) v
+      → rest.now ≡ drop k w.rest.now → length rest.now < length w.rest.now → CameTo (record { table = w.table; rest = rest; weights = v })
+  piece_read a k ls rest v h p d l = ((λ m. at_piece m rules a w.rest.now ls rest.now v h p), (refl, (k, d)), l)
+
+  -- letters are left where fewer bytes may be behind
+  some_left : (rest : List ℕ) → length rest < length w.rest.now → (a : ℕ) × (ls : List ℕ) × (letters_in rules.utf8 w.rest.now ≡ a ∷ ls)
+  some_left rest l = go (first_in rules.utf8 w.rest.now) refl
+    where
+      go : (r : Option (ℕ × ℕ)) → first_in rules.utf8 w.rest.now ≡ r → (a : ℕ) × (ls : List ℕ) × (letters_in rules.utf8 w.rest.now ≡ a ∷ ls)
+      go None e = absurd (let z = ap length (read_none rules.utf8 w.rest.now e) in omega arith)
+      go (Some (a, k)) e = (a, letters_in rules.utf8 (drop k w.rest.now), (read_first rules.utf8 w.rest.now a k e).0)
+
+  -- a run that is taken
+  pub run_read : (rest : Bor (List ℕ)) → RunAt w rest.now → CameTo (record { table = w.table; rest = rest; weights = w.weights })
+  run_read rest r =
+      let s = some_left rest.now r.3 in
+      piece_read s.0 r.2.0 s.1 rest w.weights s.2 (subst (λ ls. PieceAt rules ls (letters_in rules.utf8 rest.now) w.weights) s.2 r.0) r.2.1 r.3
+
+  -- a letter that was read is the first of those that are left
+  module _ (a k : ℕ) (rest : List ℕ) (f : first_in rules.utf8 w.rest.now ≡ Some (a, k)) (d : rest ≡ drop k w.rest.now) where
+    pub are_left : letters_in rules.utf8 w.rest.now ≡ a ∷ letters_in rules.utf8 rest
+    are_left = (read_first rules.utf8 w.rest.now a k f).0 ∙ ap (λ n. a ∷ letters_in rules.utf8 n) (sym d)
+
+    pub fewer_left : length rest < length w.rest.now
+    fewer_left =
+        let r = read_first rules.utf8 w.rest.now a k f in
+        let g = ap length d in
+        let m = length-drop k w.rest.now in
+        let x = r.1 in
+        let y = r.2 in
+        omega arith
+
+  -- one letter that was read is taken
   pub letter_read : (a k : ℕ) (rest : Bor (List ℕ)) (v : Weights) → first_in rules.utf8 w.rest.now ≡ Some (a, k) → rest.now ≡ drop k w.rest.now
-      → with_first rules a (first_in rules.utf8 rest.now) ≡ None → v ≡ rules.weighs (a ∷ []) → CameTo (record { table = w.table; rest = rest; weights = v })
-  letter_read a k rest v f d none e =
-      let r = read_first rules.utf8 w.rest.now a k f in
-      let h = r.0 ∙ ap (λ n. a ∷ letters_in rules.utf8 n) (sym d) in (
-        (λ l. at_letter l rules (on l v) a w.rest.now (letters_in rules.utf8 rest.now) rest.now v h refl (sym (as_front rules w.rest.now rest.now a h) ∙ none) e refl),
-        (refl, (k, d)),
-        (let g = ap length d in let m = length-drop k w.rest.now in let x = r.1 in let y = r.2 in omega arith),
-      )
+      → taken rules.joins (a ∷ letters_in rules.utf8 rest.now) ≡ 1 → v ≡ rules.weighs (a ∷ []) → CameTo (record { table = w.table; rest = rest; weights = v })
+  letter_read a k rest v f d one e =
+      piece_read a k (letters_in rules.utf8 rest.now) rest v (are_left a k rest.now f d) (letter_at rules a rest.now _ v refl one e) d (fewer_left a k rest.now f d)
 
-  -- two letters are met just where the one that was read and the next are one
-  pub pair_met : (a k : ℕ) (rest : List ℕ) (v : Weights) → first_in rules.utf8 w.rest.now ≡ Some (a, k) → rest ≡ drop k w.rest.now
-      → with_first rules a (first_in rules.utf8 rest) ≡ Some v → next_pair w ≡ Some v
-  pair_met a k rest v f d s =
-      let r = read_first rules.utf8 w.rest.now a k f in
-      sym (as_front rules w.rest.now rest a (r.0 ∙ ap (λ n. a ∷ letters_in rules.utf8 n) (sym d))) ∙ s
-
-  pub pair_read : (rest : Bor (List ℕ)) → rest.now ≡ behind_first rules.utf8 (behind_first rules.utf8 w.rest.now) → next_pair w ≡ Some w.weights
-      → CameTo (record { table = w.table; rest = rest; weights = w.weights })
-  pair_read rest d p =
-      let f = fronted rules w.rest.now w.weights p in
-      let one = cut_further rules.utf8 w.rest.now in
-      let two = cut_further rules.utf8 (behind_first rules.utf8 w.rest.now) in (
-        (λ l. at_pair l rules (on l w.weights) f.first f.second w.rest.now f.others rest.now w.weights f.are (f.behind ∙ ap (letters_in rules.utf8) (sym d)) f.weigh refl),
-        (refl, (one.0 + two.0, d ∙ (two.1 ∙ (ap (drop two.0) one.1 ∙ drop-drop two.0 one.0 w.rest.now)))),
-        (let g = ap length d in let x = f.fewer in omega arith),
-      )
+  -- a run with a letter that was read is the one at which the walk stands
+  pub run_met : (a k : ℕ) (rest behind : List ℕ) (v : Weights) → first_in rules.utf8 w.rest.now ≡ Some (a, k) → rest ≡ drop k w.rest.now
+      → PieceAt rules (a ∷ letters_in rules.utf8 rest) (letters_in rules.utf8 behind) v → ((i : ℕ) × (behind ≡ drop i rest)) → AreShort v
+      → RunAt (record { table = w.table; rest = w.rest; weights = v }) behind
+  run_met a k rest behind v f d p (i, b) s = (
+    subst (λ ls. PieceAt rules ls (letters_in rules.utf8 behind) v) (sym (are_left a k rest f d)) p,
+    s,
+    (k + i, b ∙ (ap (drop i) d ∙ drop-drop i k w.rest.now)),
+    (let l = fewer_left a k rest f d in let m = ap length b in let n = length-drop i rest in omega arith),
+  )
 
   module _ (v : Walk) (c : CameTo v) where
     -- what counts is where a step ends

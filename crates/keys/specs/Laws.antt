@@ -1,30 +1,60 @@
 -- What is promised of names and their keys, beyond what the functions answer.
-use Rattle.std.specs.Prelude.{◌≡◌, ℕ, ◌+◌, ◌*◌, ◌<◌, ◌≤◌, Bool, true, false, cond, nat_lt, List, [], ◌∷◌, length, drop, codes, slice_index_or}
+use Rattle.std.specs.Prelude.{◌≡◌, ℕ, ◌+◌, ◌*◌, ◌<◌, ◌≤◌, ◌⊎◌, Bool, true, false, cond, nat_lt, List, [], ◌∷◌, ◌++◌, length, drop, map, codes, slice_index_or}
 use Rattle.std.specs.List.{list_all}
-use Rattle.table.specs.Rules.{Rules}
+use Rattle.table.specs.declared.view.Table.{Table}
+use Rattle.table.specs.Meaning.{rules_of}
+use Rattle.table.specs.Rules.{Rules, rules_in}
 use Rattle.table.specs.Valley.{valley}
 use Rattle.keys.specs.declared.level.Level.{Level}
 use Rattle.keys.specs.Letters.{letters_in}
 use Rattle.keys.specs.Pieces.{pieces, together}
-use Rattle.keys.specs.Rows.{key, row}
+use Rattle.keys.specs.Rows.{key, row, weight, without_zeros}
 
--- the next two letters are one together
-abbrev pub meets : (joins : List ℕ → Bool) → List ℕ → Bool
-meets joins [] = false
-meets joins (a ∷ []) = false
-meets joins (a ∷ (b ∷ xs)) = joins (a ∷ (b ∷ []))
+-- a piece is one letter, or a run that is one together
+abbrev pub IsPiece : (joins : List ℕ → Bool) → List ℕ → Type 0
+IsPiece joins p = (length p ≡ 1) ⊎ (joins p ≡ true)
 
--- A name's letters in pieces, in other words. The pieces put together again are the letters; and a piece is of two letters exactly
--- where the next two not yet taken are one together, else of one.
+-- A name's letters in pieces, in words that do not go by how they are found. The pieces put together again are the letters; each
+-- is a letter, or a run that is one together; and where it begins no longer run begins that is one together.
 pub record Reads (joins : List ℕ → Bool) (n : List ℕ) (ps : List (List ℕ)) : Type 0 where
   pub whole : together ps ≡ n
-  pub each : (k : ℕ) → k < length ps → length (slice_index_or ps k []) ≡ cond (meets joins (together (drop k ps))) 2 1
+  pub each : (k : ℕ) → k < length ps → IsPiece joins (slice_index_or ps k [])
+  pub longest : (k : ℕ) → k < length ps → (run rest : List ℕ) → joins run ≡ true → together (drop k ps) ≡ run ++ rest → length run ≤ length (slice_index_or ps k [])
 
--- the pieces of letters are such a reading, and there is no other
+-- only two, three or four letters are one together
+abbrev pub RunsFit : (joins : List ℕ → Bool) → Type 0
+RunsFit joins = (run : List ℕ) → joins run ≡ true → (2 ≤ length run) × (length run ≤ 4)
+
+-- then the pieces of letters are such a reading, and there is no other
 abbrev pub OneReading : Type 0
 OneReading =
-    (joins : List ℕ → Bool) (n : List ℕ) →
+    (joins : List ℕ → Bool) (n : List ℕ) → RunsFit joins →
     Reads joins n (pieces joins n) × ((ps : List (List ℕ)) → Reads joins n ps → ps ≡ pieces joins n)
+
+-- two ways to cut a name that both are such readings are the same
+abbrev pub SameReading : Type 0
+SameReading = (joins : List ℕ → Bool) (n : List ℕ) (ps qs : List (List ℕ)) → RunsFit joins → Reads joins n ps → Reads joins n qs → ps ≡ qs
+
+-- all this is so under every table
+abbrev pub TablesFit : Type 0
+TablesFit = (t : Table) → RunsFit (rules_of t).joins
+
+-- only two letters are one together
+abbrev pub OnlyPairs : (joins : List ℕ → Bool) → Type 0
+OnlyPairs joins = (run : List ℕ) → joins run ≡ true → length run ≡ 2
+
+-- names read where only pairs are looked for: two letters that are one are taken so where they are met, else one letter
+unfoldable pub pair_pieces : (joins : List ℕ → Bool) → List ℕ → List (List ℕ)
+pair_pieces joins [] = []
+pair_pieces joins (a ∷ []) = (a ∷ []) ∷ []
+pair_pieces joins (a ∷ (b ∷ xs)) =
+    cond (joins (a ∷ (b ∷ []))) ((a ∷ (b ∷ [])) ∷ pair_pieces joins xs) ((a ∷ []) ∷ pair_pieces joins (b ∷ xs))
+
+-- a table that has only pairs reads every name so, and so do all tables that are lent as numbers
+pub record PairsRead : Type 0 where
+  pub read : (joins : List ℕ → Bool) (n : List ℕ) → OnlyPairs joins → pieces joins n ≡ pair_pieces joins n
+  pub rows : (l : Level) (t : Rules) (n : List ℕ) → OnlyPairs t.joins → row l t n ≡ without_zeros (map (weight l t) (pair_pieces t.joins (letters_in t.utf8 n)))
+  pub lent : (ls ps : List ℕ) (n : ℕ) → OnlyPairs (rules_in ls ps n).joins
 
 -- numbers none of which is 0
 abbrev pub ZeroFree : List ℕ → Type 0
@@ -68,6 +98,9 @@ KeyOfMarked = key valley (codes "c'ab") ≡ 30 ∷ (10 ∷ (20 ∷ (0 ∷ (1 ∷
 -- all of these
 pub record Laws : Type 0 where
   pub one_reading : OneReading
+  pub same_reading : SameReading
+  pub tables_fit : TablesFit
+  pub pairs_read : PairsRead
   pub rows_zero_free : RowsZeroFree
   pub keys_short : KeysShort
   pub same_keys : SameKeys

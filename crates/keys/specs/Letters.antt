@@ -24,15 +24,6 @@ abbrev pub Split : (utf8 : Bool) → List ℕ → Option (ℕ × Bor (List ℕ))
 Split utf8 n None = first_in utf8 n ≡ None
 Split utf8 n (Some (a, rest)) = (k : ℕ) × (first_in utf8 n ≡ Some (a, k)) × (rest.now ≡ drop k n)
 
--- what is behind a letter that takes so many bytes
-abbrev pub cut_off : Option (ℕ × ℕ) → List ℕ → List ℕ
-cut_off None n = []
-cut_off (Some (a, k)) n = drop k n
-
--- what is behind the first letter
-abbrev pub behind_first : (utf8 : Bool) → List ℕ → List ℕ
-behind_first utf8 n = cut_off (first_in utf8 n) n
-
 -- a letter may begin with the first byte, whatever stands in front
 abbrev pub begins_in : (utf8 : Bool) → List ℕ → Bool
 begins_in true n = begins_letter n

@@ -1,41 +1,36 @@
 -- Reading along a row and along a key.
-use Rattle.std.specs.Prelude.{◌≡◌, ℕ, ◌<◌, Bool, true, false, cond, List, [], ◌∷◌, drop, length, Some, None, Option, ◌==◌}
-use Rattle.table.specs.declared.piece.Weights.{Weights}
+use Rattle.std.specs.Prelude.{◌≡◌, ℕ, ◌<◌, Bool, true, false, cond, List, [], ◌∷◌, drop, length, take, Some, None, Option, ◌==◌}
+use Rattle.pieces.specs.declared.piece.Weights.{Weights}
 use Rattle.table.specs.Meaning.{rules_of}
-use Rattle.table.specs.Rules.{Rules, contraction}
+use Rattle.table.specs.Rules.{Rules}
 use Rattle.keys.specs.declared.level.Level.{Level}
 use Rattle.keys.specs.declared.level.Level.TheVariants.{Primary, Secondary, Tertiary}
 use Rattle.keys.specs.declared.numbers.KeyNumbers.{KeyNumbers}
 use Rattle.keys.specs.declared.row.Row.{Row}
 use Rattle.keys.specs.declared.walk.Walk.{Walk}
-use Rattle.keys.specs.Letters.{first_in, letters_in}
+use denote.Ref.{Bor}
+use Rattle.keys.specs.Letters.{letters_in}
+use Rattle.keys.specs.Pieces.{met, taken}
 use Rattle.keys.specs.Rows.{joined, on, row}
 
--- what the first two letters weigh, where they are there and are one together
-abbrev pub front_pair : Rules → List ℕ → Option Weights
-front_pair t [] = None
-front_pair t (a ∷ []) = None
-front_pair t (a ∷ (b ∷ n)) = contraction t (a ∷ (b ∷ []))
+-- what is taken at once at the front of letters weighs so, and these are behind it
+abbrev pub PieceAt : Rules → (letters rest : List ℕ) → Weights → Type 0
+PieceAt t ls rest w = (w ≡ t.weighs (take (taken t.joins ls) ls)) × (rest ≡ drop (taken t.joins ls) ls)
 
--- the same of the next two
-abbrev pub next_pair : Walk → Option Weights
-next_pair w = front_pair (rules_of w.table.now) (letters_in w.table.now.utf8 w.rest.now)
+-- With a letter that was read a run begins, of which the longest that is met is told: what is behind it, and what it weighs. Or the
+-- letter is taken alone.
+abbrev pub RunWith : Rules → (letter : ℕ) → (behind : List ℕ) → Option (Bor (List ℕ) × Weights) → Type 0
+RunWith t a n None = taken t.joins (a ∷ letters_in t.utf8 n) ≡ 1
+RunWith t a n (Some (rest, w)) = PieceAt t (a ∷ letters_in t.utf8 n) (letters_in t.utf8 rest.now) w × ((k : ℕ) × (rest.now ≡ drop k n))
 
--- the same of a letter that was read and the first of what is behind it
-abbrev pub with_first : Rules → (letter : ℕ) → Option (ℕ × ℕ) → Option Weights
-with_first t a None = None
-with_first t a (Some (b, k)) = contraction t (a ∷ (b ∷ []))
-
-abbrev pub pair_with : Rules → (letter : ℕ) → (rest : List ℕ) → Option Weights
-pair_with t a n = with_first t a (first_in t.utf8 n)
+-- the same of three and four letters, where two were read
+abbrev pub LongWith : Rules → (first second : ℕ) → (behind : List ℕ) → Option (Bor (List ℕ) × Weights) → Type 0
+LongWith t a b n None = (met t.joins 4 (a ∷ (b ∷ letters_in t.utf8 n)) ≡ false) × (met t.joins 3 (a ∷ (b ∷ letters_in t.utf8 n)) ≡ false)
+LongWith t a b n (Some (rest, w)) = PieceAt t (a ∷ (b ∷ letters_in t.utf8 n)) (letters_in t.utf8 rest.now) w × ((k : ℕ) × (rest.now ≡ drop k n))
 
 -- each weight is one of 16 bits
 abbrev pub AreShort : Weights → Type 0
 AreShort w = (l : Level) → on l w < 65536
-
--- they are, and weigh so
-abbrev pub PairAt : Walk → Type 0
-PairAt w = (next_pair w ≡ Some w.weights) × AreShort w.weights
 
 -- a weight in front of a row, unless it is 0
 abbrev pub in_front : ℕ → List ℕ → List ℕ
@@ -48,6 +43,12 @@ left_of l w = row l (rules_of w.table.now) w.rest.now
 -- the same name, further on: some letters of what was left have been taken
 abbrev pub WalkedOn : Walk → Walk → Type 0
 WalkedOn w v = (v.table ≡ w.table) × ((k : ℕ) × (v.rest.now ≡ drop k w.rest.now))
+
+-- what is taken next of what is left of a name weighs as the walk says, and this is behind it
+abbrev pub RunAt : Walk → (rest : List ℕ) → Type 0
+RunAt w rest =
+    PieceAt (rules_of w.table.now) (letters_in w.table.now.utf8 w.rest.now) (letters_in w.table.now.utf8 rest) w.weights × AreShort w.weights
+    × ((k : ℕ) × (rest ≡ drop k w.rest.now)) × (length rest < length w.rest.now)
 
 -- The next piece that counts on some level has been taken, and what it weighs stands in front of what is left of each row; or
 -- nothing is left of any.

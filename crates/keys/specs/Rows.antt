@@ -1,6 +1,6 @@
 -- Rows of weights, and the sort key that they make.
 use Rattle.std.specs.Prelude.{ℕ, cond, List, [], ◌∷◌, ◌++◌, map, Some, None, Option, ◌==◌}
-use Rattle.table.specs.declared.piece.Weights.{Weights}
+use Rattle.pieces.specs.declared.piece.Weights.{Weights}
 use Rattle.table.specs.Rules.{Rules}
 use Rattle.keys.specs.declared.level.Level.{Level}
 use Rattle.keys.specs.declared.level.Level.TheVariants.{Primary, Secondary, Tertiary}

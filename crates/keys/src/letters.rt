@@ -1,6 +1,6 @@
 // Names read letter by letter.
 ghost use Rattle.std.specs.Prelude.{◌≡◌};
-ghost use Rattle.keys.specs.Letters.{CountedIn, Split, behind_first, first_in, one_byte};
+ghost use Rattle.keys.specs.Letters.{CountedIn, Split, first_in, one_byte};
 
 use utf8::{count_letters, first_letter};
 
@@ -32,23 +32,6 @@ pub(crate) fn split_first(utf8: bool, name: &[u8]) -> Option<(u32, &[u8])>
 {
     let (letter, length) = first_in(utf8, name)?;
     Some((letter, &name[length..]))
-}
-
-// What is behind the first two letters.
-pub(crate) fn behind_two(utf8: bool, name: &[u8]) -> &[u8]
-    ensures { result.now ≡ behind_first utf8 (behind_first utf8 name.now) }
-{
-    behind_first(utf8, behind_first(utf8, name))
-}
-
-// What is behind the first letter.
-fn behind_first(utf8: bool, name: &[u8]) -> &[u8]
-    ensures { result.now ≡ behind_first utf8 name.now }
-{
-    match split_first(utf8, name) {
-        Some((_, rest)) => rest,
-        None => &[],
-    }
 }
 
 // How many letters a name has; else the first byte at which none can be read.

@@ -3,7 +3,7 @@ ghost use Rattle.std.specs.Prelude.{◌≡◌, length};
 ghost use Rattle.keys.specs.Reading.{Rowed, row_left};
 ghost use Rattle.keys.specs.Rows.{row};
 ghost use Rattle.table.specs.Meaning.{rules_of};
-ghost use Rattle.table.specs.Rules.{nothing};
+ghost use Rattle.pieces.specs.Runs.{nothing};
 ghost use Rattle.std.specs.Iterator.{at_most};
 
 use crate::level::Level;

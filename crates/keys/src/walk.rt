@@ -1,11 +1,11 @@
 // A name read from the left, piece by piece.
 ghost use Rattle.std.specs.Prelude.{◌≡◌};
-ghost use Rattle.keys.specs.Reading.{PairAt, Stepped, pair_with};
+ghost use Rattle.keys.specs.Reading.{LongWith, RunAt, RunWith, Stepped};
 ghost use Rattle.table.specs.Meaning.{rules_of};
-ghost use Rattle.table.specs.Rules.{nothing};
+ghost use Rattle.pieces.specs.Runs.{nothing};
 
-use crate::letters::{behind_two, first_in, one_byte, split_first};
-use table::{Table, Weights};
+use crate::letters::{one_byte, split_first};
+use table::{LongRun, Table, Weights};
 
 // What is left of a name, and what the piece weighs that was taken last.
 #[derive(Clone, Copy)]
@@ -28,9 +28,9 @@ impl<'a, 't, 'n> Walk<'a, 't, 'n> {
     }
 }
 
-impl Walk<'_, '_, '_> {
+impl<'n> Walk<'_, '_, 'n> {
     // Goes on to the next piece that counts on some level, and answers whether there was one; what it weighs is left in the walk.
-    // Most letters are one byte, begin no pair, and count: they are taken here, where the walk is held in registers, and the
+    // Most letters are one byte, begin no run, and count: they are taken here, where the walk is held in registers, and the
     // others by the steps below.
     #[inline(always)]
     pub(crate) fn step(&mut self) -> bool
@@ -60,19 +60,19 @@ impl Walk<'_, '_, '_> {
         found
     }
 
-    // The step at a letter: one letter is taken, unless it is one with the next. Goes on until what was taken counts on some
-    // level, and answers whether there was such a piece. What it weighs is left in the walk: handed back, it would go through
-    // memory, and then the calls of the two steps use up the stack on twenty million letters that do not count.
-    #[cycle(letter_step_pair_step)]
+    // The step at a letter: one letter is taken, unless a run begins with it. Goes on until what was taken counts on some level,
+    // and answers whether there was such a piece. What it weighs is left in the walk: handed back, it would go through memory, and
+    // then the calls of the two steps use up the stack on twenty million letters that do not count.
+    #[cycle(letter_step_run_step)]
     fn letter_step(&mut self) -> bool
         ensures { Stepped self.old result self.new }
     {
         let Some((letter, rest)) = split_first(self.table.utf8(), self.rest) else {
             return false;
         };
-        if let Some(weights) = pair_with(self.table, letter, rest) {
+        if let Some((behind, weights)) = run_with(self.table, letter, rest) {
             self.weights = weights;
-            return self.pair_step();
+            return self.run_step(behind);
         }
         self.rest = rest;
         self.weights = self.table.letter(letter);
@@ -82,13 +82,13 @@ impl Walk<'_, '_, '_> {
         self.letter_step()
     }
 
-    // The same at two letters that are one together, and weigh so.
-    #[cycle(letter_step_pair_step)]
-    fn pair_step(&mut self) -> bool
-        requires { PairAt self.old }
+    // The same at a run, which weighs so and has this behind it.
+    #[cycle(letter_step_run_step)]
+    fn run_step(&mut self, behind: &'n [u8]) -> bool
+        requires { RunAt self.old behind.now }
         ensures { Stepped self.old result self.new }
     {
-        self.rest = behind_two(self.table.utf8(), self.rest);
+        self.rest = behind;
         if self.weights.counts() {
             return true;
         }
@@ -105,10 +105,53 @@ fn stepped<'a, 't, 'n>(mut walk: Walk<'a, 't, 'n>) -> (bool, Walk<'a, 't, 'n>)
     (found, walk)
 }
 
-// What the next two letters weigh, where they are one together: one that was read, and the first of what is behind it.
-fn pair_with(table: &Table, letter: u32, rest: &[u8]) -> Option<Weights>
-    ensures { result ≡ pair_with (rules_of table.now) letter rest.now }
+// The longest run that begins with a letter that was read: what is behind it, and what it weighs.
+fn run_with<'n>(table: &Table, letter: u32, rest: &'n [u8]) -> Option<(&'n [u8], Weights)>
+    ensures { RunWith (rules_of table.now) letter rest.now result }
 {
-    let (second, _) = first_in(table.utf8(), rest)?;
-    table.pair(letter, second)
+    if !table.may_begin(letter) {
+        return None;
+    }
+    let utf8 = table.utf8();
+    let (second, behind_two) = split_first(utf8, rest)?;
+    if table.long_count() > 0 {
+        if let Some(run) = long_with(table, letter, second, behind_two) {
+            return Some(run);
+        }
+    }
+    let weights = table.pair(letter, second)?;
+    Some((behind_two, weights))
+}
+
+// The same of three and four letters, two of which were read.
+#[inline(never)]
+fn long_with<'n>(
+    table: &Table,
+    first: u32,
+    second: u32,
+    rest: &'n [u8],
+) -> Option<(&'n [u8], Weights)>
+    ensures { LongWith (rules_of table.now) first second rest.now result }
+{
+    let utf8 = table.utf8();
+    let (third, behind_three) = split_first(utf8, rest)?;
+    if let Some((fourth, behind_four)) = split_first(utf8, behind_three) {
+        let four = LongRun {
+            first,
+            second,
+            third,
+            fourth: Some(fourth),
+        };
+        if let Some(weights) = table.long(four) {
+            return Some((behind_four, weights));
+        }
+    }
+    let three = LongRun {
+        first,
+        second,
+        third,
+        fourth: None,
+    };
+    let weights = table.long(three)?;
+    Some((behind_three, weights))
 }

@@ -1,4 +1,4 @@
-// Sort keys on examples: the numbers, the room that they are written into, what is turned away, and names in UTF-8.
+// Sort keys on examples: the numbers, runs of letters that are one, the room that keys are written into, what is turned away, and names in UTF-8.
 #![tactic(auto)]
 
 #[cfg(test)]
@@ -8,4 +8,8 @@ mod numbers;
 #[cfg(test)]
 mod room;
 #[cfg(test)]
+mod runs;
+#[cfg(test)]
 mod wide;
+#[cfg(test)]
+mod wide_runs;

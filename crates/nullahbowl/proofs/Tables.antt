@@ -1,12 +1,13 @@
--- The lines of a table's letters and pairs, one more at a time.
+-- The lines of a table's letters and runs, one more at a time.
 use Rattle.std.proofs.Common.{◌≡◌, ℕ, ◌+◌, ◌<◌, Some, Option, List, [], ◌∷◌, ◌++◌, length, get_or, take, sym, refl, ap, ◌∙◌, add-one, arith}
 use Rattle.std.proofs.lemmas.List.{flat_map_more, take_more}
 use Rattle.std.proofs.lemmas.Option.{get_or_from_slice_get, slice_get-get_or, slice_get_within}
 use Rattle.std.specs.List.{slice_get}
-use Rattle.nullahbowl.specs.Writing.{entry_line, letter_line, letters_text, pairs_text}
+use Rattle.nullahbowl.specs.Writing.{entry_line, letter_line, letters_text, longs_text, pairs_text}
 use Rattle.table.specs.Rules.{Rules}
-use Rattle.table.specs.declared.piece.Pair as pair
-use Rattle.texts.specs.declared.line.Entry.TheVariants.{Pair}
+use Rattle.pieces.specs.declared.piece.Long as long
+use Rattle.pieces.specs.declared.piece.Pair as pair
+use Rattle.texts.specs.declared.line.Entry.TheVariants.{Long, Pair}
 
 pub letters_none : (t : Rules) → letters_text t 0 ≡ []
 unfolding letters_text
@@ -23,10 +24,17 @@ pairs_more ps k p e =
     let next = take_more ps k p (slice_get_within ps k p e) in
     ap pairs_text (next ∙ ap (λ x. take k ps ++ x ∷ []) there) ∙ sym (flat_map_more (λ q. entry_line (Pair q)) [] (take k ps) p)
 
+pub longs_more : (es : List long.Long) (k : ℕ) (e : long.Long) → slice_get es k ≡ Some e
+    → longs_text (take (k + 1) es) ≡ longs_text (take k es) ++ entry_line (Long e)
+longs_more es k e q =
+    let there = get_or_from_slice_get es k e e q in
+    let next = take_more es k e (slice_get_within es k e q) in
+    ap longs_text (next ∙ ap (λ x. take k es ++ x ∷ []) there) ∙ sym (flat_map_more (λ f. entry_line (Long f)) [] (take k es) e)
+
 -- at each place before the end there is one
-pub pair_there : (ps : List pair.Pair) (k : ℕ) (r : Option pair.Pair) → r ≡ slice_get ps k → k < length ps → (p : pair.Pair) × (r ≡ Some p)
-pair_there [] k r e h = absurd (k_not k h)
+pub one_there : {A : Type 0} (xs : List A) (k : ℕ) (r : Option A) → r ≡ slice_get xs k → k < length xs → (x : A) × (r ≡ Some x)
+one_there {A} [] k r e h = absurd (k_not k h)
   where
-    k_not : (n : ℕ) → n < length {A = pair.Pair} [] → ⊥
+    k_not : (n : ℕ) → n < length {A = A} [] → ⊥
     k_not n l = omega arith
-pair_there (x ∷ xs) k r e h = (get_or (x ∷ xs) k x, e ∙ slice_get-get_or (x ∷ xs) k x h)
+one_there (x ∷ xs) k r e h = (get_or (x ∷ xs) k x, e ∙ slice_get-get_or (x ∷ xs) k x h)

@@ -9,7 +9,7 @@ use Rattle.nullahbowl.specs.declared.answer.TakeError.{TakeError}
 use Rattle.nullahbowl.specs.declared.answer.TakeError.TheVariants.{Full, NoMemory, Refused}
 use Rattle.nullahbowl.specs.declared.argument.Options.{Options}
 use Rattle.nullahbowl.specs.declared.session.Session.{Session}
-use Rattle.table.specs.Buffer.{buffer_pairs}
+use Rattle.table.specs.Buffer.{buffer_longs, buffer_pairs}
 use Rattle.texts.specs.declared.fault.Fault.{Fault}
 use Rattle.texts.specs.declared.fault.Fault.TheVariants.{Bytes, Name, Question, Table, Text}
 use Rattle.texts.specs.Lines.{meaning_of}
@@ -82,6 +82,6 @@ LinesTaken o s (l ∷ ls) k f q w t =
 abbrev pub EndTold : Options → (asked : ℕ) → Session → (w : List ℕ) → Session → Type 0
 EndTold o q s w t =
     elim o.table [
-      | true ↦ (w ≡ table_text (held_rules s.book) (buffer_pairs s.book.table)) × (t ≡ s)
+      | true ↦ (w ≡ table_text (held_rules s.book) (buffer_pairs s.book.table) (buffer_longs s.book.table)) × (t ≡ s)
       | false ↦ elim (q == 0) [ true ↦ Settled s (Ok tt) t × (w ≡ found_text o (found_names t [])) | false ↦ (w ≡ []) × (t ≡ s) ]
     ]

@@ -9,7 +9,7 @@ use Rattle.table.specs.declared.fault.Failure.TheVariants.{NoMemory, Refused}
 use Rattle.table.specs.declared.fault.Refusal.{Refusal}
 use Rattle.texts.specs.declared.fault.Fault.TheVariants.{Name, Question, Table}
 
--- a letter or a pair is turned away
+-- a letter or a run is turned away
 abbrev pub pair_fails : Failure Refusal → TakeError
 pair_fails (Refused why) = take.Refused (Table why)
 pair_fails NoMemory = take.NoMemory

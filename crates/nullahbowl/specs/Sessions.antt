@@ -1,5 +1,5 @@
 -- What the lines read so far make, and what one line more changes and is answered.
-use Rattle.std.specs.Prelude.{◌≡◌, ℕ, Bool, true, false, cond, List, [], ◌∷◌, ◌++◌, length, map, replicate, slice_set, Some, None, Ok, Err, Option, Result, vec_items, ◌&&◌}
+use Rattle.std.specs.Prelude.{◌≡◌, ℕ, Bool, true, false, cond, List, [], ◌∷◌, ◌++◌, map, replicate, slice_set, Some, None, Ok, Err, Option, Result, vec_items, ◌&&◌}
 use Rattle.std.specs.declared.alloc.AllocError.{AllocError}
 use Rattle.catalogue.specs.Arranging.{Arranged}
 use Rattle.catalogue.specs.Filling.{Appended, Kept, SameNames, TableSet, TooMuch, held_rules, held_starts, held_text}
@@ -12,12 +12,16 @@ use Rattle.nullahbowl.specs.declared.answer.Answer.TheVariants.{Find, Key, Nothi
 use Rattle.nullahbowl.specs.declared.answer.TakeError.{TakeError}
 use Rattle.nullahbowl.specs.declared.answer.TakeError.TheVariants.{Full, NoMemory, Refused}
 use Rattle.nullahbowl.specs.declared.session.Session.{Session}
-use Rattle.table.specs.Buffer.{buffer_letters, buffer_pairs, letter_refusal, pair_refusal, with_entry}
-use Rattle.table.specs.Rules.{Rules, in_utf8, no_rules, with_pair}
+use Rattle.table.specs.Buffer.{buffer_letters, buffer_longs, buffer_pairs, letter_refusal, long_refusal, many_runs, pair_refusal, with_entry}
+use Rattle.table.specs.declared.fault.Refusal.{Refusal}
+use Rattle.table.specs.Rules.{Rules, in_utf8, no_rules, with_pair, with_run}
 use Rattle.table.specs.Valley.{valley, valley_pairs}
 use Rattle.table.specs.declared.buffer.TableBuf.{TableBuf}
-use Rattle.table.specs.declared.piece.Letter.{Letter}
-use Rattle.table.specs.declared.piece.Pair.{Pair}
+use Rattle.pieces.specs.declared.piece.Letter.{Letter}
+use Rattle.pieces.specs.declared.piece.Long.{Long}
+use Rattle.pieces.specs.declared.piece.Pair.{Pair}
+use Rattle.pieces.specs.Ranks.{put_in}
+use Rattle.pieces.specs.Runs.{long_letters, long_rank}
 use Rattle.texts.specs.declared.fault.Fault.TheVariants.{Bytes, Name, Question, Table, Text}
 use Rattle.texts.specs.declared.line.Entry.TheVariants as entry
 use Rattle.texts.specs.Lines.{Meaning, blank, damaged, enters, finds, names, says, unreadable, wants_key}
@@ -26,12 +30,19 @@ use Rattle.texts.specs.Lines.{Meaning, blank, damaged, enters, finds, names, say
 abbrev pub session_letters : Session → List Bool
 session_letters s = s.named
 
--- what the lines of a table say by now, their pairs, how many letters weigh something, and which are named
+-- what the lines of a table say by now, their pairs and longer runs and how many these are, how many letters weigh something, and
+-- which are named
 abbrev pub entered_rules : Session → Rules
 entered_rules s = cond s.own (held_rules s.book) (no_rules true)
 
 abbrev pub entered_pairs : Session → List Pair
 entered_pairs s = cond s.own (buffer_pairs s.book.table) []
+
+abbrev pub entered_longs : Session → List Long
+entered_longs s = cond s.own (buffer_longs s.book.table) []
+
+abbrev pub entered_runs : Session → ℕ
+entered_runs s = many_runs (entered_pairs s) (entered_longs s)
 
 abbrev pub entered_letters : Session → ℕ
 entered_letters s = cond s.own (buffer_letters s.book.table) 0
@@ -49,6 +60,7 @@ pub record Fresh (s : Session) : Type 0 where
   pub named : s.named ≡ replicate 65536 true
   pub rules : held_rules s.book ≡ in_utf8 valley
   pub pairs : buffer_pairs s.book.table ≡ valley_pairs
+  pub longs : buffer_longs s.book.table ≡ []
   pub text : held_text s.book ≡ []
   pub starts : held_starts s.book ≡ 0 ∷ []
   pub arranged : s.book.arranged ≡ false
@@ -74,10 +86,11 @@ pub record Same (s t : Session) : Type 0 where
   pub table : t.book.table ≡ s.book.table
   pub names : SameNames s.book t.book
 
--- what the table says, its pairs, its letters and names are the same, and so is their list
+-- what the table says, its pairs and longer runs, its letters and names are the same, and so is their list
 abbrev pub SameSaid : (s t : Session) → Type 0
 SameSaid s t =
     (held_rules t.book ≡ held_rules s.book) × (buffer_pairs t.book.table ≡ buffer_pairs s.book.table)
+    × (buffer_longs t.book.table ≡ buffer_longs s.book.table)
     × (buffer_letters t.book.table ≡ buffer_letters s.book.table) × SameEntries s t × Kept s.book t.book
 
 -- all names are in order, and nothing else changes; or there is no memory
@@ -89,37 +102,44 @@ Settled s (Err x) t = (s.book.arranged ≡ false) × (t ≡ s)
 abbrev pub Begun : Session → TableBuf → Session → Type 0
 Begun s b t = (t.own ≡ true) × (t.named ≡ replicate 65536 false) × TableSet s.book b t.book
 
--- A letter is added to those of the lines, and named, and the table is that of the lines. Where it can't be one of them it is
--- turned away, as the table says, and nothing changes. Or there is no memory, and what all say is the same; where it is the first
--- line of a table, nothing changes then.
-abbrev pub Weighed : Session → Letter → Result Unit TakeError → Session → Type 0
-Weighed s e (Ok x) t =
-    (letter_refusal (entered_rules s) (entered_letters s) e ≡ None)
-    × (t.own ≡ true) × (t.named ≡ slice_set (entered_named s) e.letter true)
-    × (held_rules t.book ≡ with_entry (entered_rules s) e) × (buffer_pairs t.book.table ≡ entered_pairs s) × SameNames s.book t.book
+-- An entry is added to those of the lines, where nothing speaks against it: the table is that of the lines then, and has these rules,
+-- pairs and longer runs, and these letters are named. Where it can't be one of them it is turned away, as the table says, and nothing
+-- changes. Or there is no memory, and what all say is the same; where it is the first line of a table, nothing changes then.
+abbrev pub Entered : (refusal : Option Refusal) → Rules → List Pair → List Long → (named : List Bool) → Session → Result Unit TakeError → Session → Type 0
+Entered refusal rules pairs longs named s (Ok x) t =
+    (refusal ≡ None) × (t.own ≡ true) × (t.named ≡ named)
+    × (held_rules t.book ≡ rules) × (buffer_pairs t.book.table ≡ pairs) × (buffer_longs t.book.table ≡ longs) × SameNames s.book t.book
     × (t.book.arranged ≡ false)
-Weighed s e (Err (Refused (Table why))) t = (letter_refusal (entered_rules s) (entered_letters s) e ≡ Some why) × (t ≡ s)
-Weighed s e (Err (Refused (Bytes j))) t = ⊥
-Weighed s e (Err (Refused (Text j))) t = ⊥
-Weighed s e (Err (Refused (Question why))) t = ⊥
-Weighed s e (Err (Refused (Name why))) t = ⊥
-Weighed s e (Err Full) t = ⊥
-Weighed s e (Err NoMemory) t = (s.own ≡ false → t ≡ s) × SameSaid s t
+Entered refusal rules pairs longs named s (Err (Refused (Table why))) t = (refusal ≡ Some why) × (t ≡ s)
+Entered refusal rules pairs longs named s (Err (Refused (Bytes j))) t = ⊥
+Entered refusal rules pairs longs named s (Err (Refused (Text j))) t = ⊥
+Entered refusal rules pairs longs named s (Err (Refused (Question why))) t = ⊥
+Entered refusal rules pairs longs named s (Err (Refused (Name why))) t = ⊥
+Entered refusal rules pairs longs named s (Err Full) t = ⊥
+Entered refusal rules pairs longs named s (Err NoMemory) t = (s.own ≡ false → t ≡ s) × SameSaid s t
 
--- A pair is added to those of the lines, its letters are named, and the table is that of the lines. Else it is as of a letter.
+-- letters are named with those that are
+abbrev pub all_named : List Bool → (letters : List ℕ) → List Bool
+all_named named [] = named
+all_named named (a ∷ ls) = all_named (slice_set named a true) ls
+
+-- a letter is entered, and named
+abbrev pub Weighed : Session → Letter → Result Unit TakeError → Session → Type 0
+Weighed s e r t =
+    Entered (letter_refusal (entered_rules s) (entered_letters s) e) (with_entry (entered_rules s) e) (entered_pairs s) (entered_longs s)
+    (all_named (entered_named s) (e.letter ∷ [])) s r t
+
+-- a pair is, and its letters are named
 abbrev pub Joined : Session → Pair → Result Unit TakeError → Session → Type 0
-Joined s p (Ok x) t =
-    (pair_refusal (entered_rules s) (length (entered_pairs s)) p ≡ None)
-    × (t.own ≡ true) × (t.named ≡ slice_set (slice_set (entered_named s) p.first true) p.second true)
-    × (held_rules t.book ≡ with_pair (entered_rules s) p) × (buffer_pairs t.book.table ≡ entered_pairs s ++ p ∷ []) × SameNames s.book t.book
-    × (t.book.arranged ≡ false)
-Joined s p (Err (Refused (Table why))) t = (pair_refusal (entered_rules s) (length (entered_pairs s)) p ≡ Some why) × (t ≡ s)
-Joined s p (Err (Refused (Bytes j))) t = ⊥
-Joined s p (Err (Refused (Text j))) t = ⊥
-Joined s p (Err (Refused (Question why))) t = ⊥
-Joined s p (Err (Refused (Name why))) t = ⊥
-Joined s p (Err Full) t = ⊥
-Joined s p (Err NoMemory) t = (s.own ≡ false → t ≡ s) × SameSaid s t
+Joined s p r t =
+    Entered (pair_refusal (entered_rules s) (entered_runs s) p) (with_pair (entered_rules s) p) (entered_pairs s ++ p ∷ []) (entered_longs s)
+    (all_named (entered_named s) (p.first ∷ (p.second ∷ []))) s r t
+
+-- a longer run is, and its letters are named
+abbrev pub JoinedLong : Session → Long → Result Unit TakeError → Session → Type 0
+JoinedLong s e r t =
+    Entered (long_refusal (entered_rules s) (entered_runs s) e) (with_run (entered_rules s) (long_letters e.run) e.weights) (entered_pairs s)
+    (put_in long_rank e (entered_longs s)) (all_named (entered_named s) (long_letters e.run)) s r t
 
 -- What asks for names is turned away if it is too long, and changes nothing; else all names are in order. There may be no memory
 -- where they were not yet.
@@ -183,6 +203,7 @@ Taken s unreadable k r t = (r ≡ Err (Refused (Text k))) × (t ≡ s)
 Taken s (damaged j) k r t = (r ≡ Err (Refused (Bytes j))) × (t ≡ s)
 Taken s (says (enters (entry.Letter e))) k r t = IfDone (done r) (λ d. Weighed s e d t)
 Taken s (says (enters (entry.Pair p))) k r t = IfDone (done r) (λ d. Joined s p d t)
+Taken s (says (enters (entry.Long e))) k r t = IfDone (done r) (λ d. JoinedLong s e d t)
 Taken s (says (names n)) k r t = IfDone (done r) (λ d. NameTaken s n d t)
 Taken s (says (wants_key n)) k r t = KeyAnswered (held_rules s.book) n r × (t ≡ s)
 Taken s (says (finds n)) k r t = FindAnswered s n r t

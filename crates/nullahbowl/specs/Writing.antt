@@ -3,12 +3,14 @@ use Rattle.std.specs.Prelude.{ℕ, zero, suc, ◌-◌, ◌^◌, cond, decimal, l
 use Rattle.std.specs.List.{flat_map}
 use Rattle.std.specs.Option.{unwrap_or}
 use Rattle.nullahbowl.specs.declared.argument.Options.{Options}
-use Rattle.table.specs.Rules.{Rules, counts}
-use Rattle.table.specs.declared.piece.Letter as letter
-use Rattle.table.specs.declared.piece.Pair as pair
+use Rattle.table.specs.Rules.{Rules}
+use Rattle.pieces.specs.Runs.{counts}
+use Rattle.pieces.specs.declared.piece.Letter as letter
+use Rattle.pieces.specs.declared.piece.Long as long
+use Rattle.pieces.specs.declared.piece.Pair as pair
 use Rattle.texts.specs.Written.{entry_text}
 use Rattle.texts.specs.declared.line.Entry.{Entry}
-use Rattle.texts.specs.declared.line.Entry.TheVariants.{Letter, Pair}
+use Rattle.texts.specs.declared.line.Entry.TheVariants.{Letter, Long, Pair}
 
 -- names, each with a line feed behind it
 unfoldable pub lines_of : List (List ℕ) → List ℕ
@@ -37,6 +39,10 @@ letters_text t (suc n) = letters_text t n ++ letter_line (record { letter = n; w
 abbrev pub pairs_text : List pair.Pair → List ℕ
 pairs_text ps = flat_map (λ p. entry_line (Pair p)) ps
 
--- a table as the lines that make it: all letters that weigh something, and then its pairs, as they lie
-abbrev pub table_text : Rules → List pair.Pair → List ℕ
-table_text t ps = letters_text t 65536 ++ pairs_text ps
+-- longer runs, each as its line
+abbrev pub longs_text : List long.Long → List ℕ
+longs_text es = flat_map (λ e. entry_line (Long e)) es
+
+-- a table as the lines that make it: all letters that weigh something, then its pairs, as they lie, and then its longer runs
+abbrev pub table_text : Rules → List pair.Pair → List long.Long → List ℕ
+table_text t ps es = letters_text t 65536 ++ (pairs_text ps ++ longs_text es)

@@ -27,12 +27,13 @@ Reads lines from the files, or from standard input where none is named or the na
 
   letter X a b c     the letter X weighs a, b and c
   pair X Y a b c     the letters X and Y are one together, and weigh a, b and c
+  run X Y Z a b c    the same of two to four letters; the longest met counts. Any other line that begins with run is a name
   find X             writes the names that begin as X, in order
   key X              writes the sort key of the name X
   name X             the name X; so is every other line, whole
 
-Lines are in UTF-8, with letters up to U+FFFF. In letter and pair lines a letter may be written as U+ and its number: U+00FC.
-Where nothing is asked for, writes all names in order. With no letter and no pair line the built-in table is used: that of the
+Lines are in UTF-8, with letters up to U+FFFF. In lines of a table a letter may be written as U+ and its number: U+00FC.
+Where nothing is asked for, writes all names in order. With no letter, pair or run line the built-in table is used: that of the
 valley, in which a to z weigh as they stand and ch stands behind c.
 What is turned away is said on standard error.
 

@@ -14,7 +14,7 @@ pub struct Session {
     book: CatalogueBuf,
     // Whether a line of a table has been taken.
     own: bool,
-    // The letters that the lines of a table name, those of pairs too; all, while none has been taken.
+    // The letters that the lines of a table name, those of pairs and longer runs too; all, while none has been taken.
     named: [bool; 65_536],
     ghost valleys: { ((buffer_rules book.table).utf8 ≡ true) × (own ≡ false → buffer_rules book.table ≡ in_utf8 valley) },
 }

@@ -2,8 +2,8 @@
 ghost use Rattle.std.specs.Prelude.{OnOk};
 ghost use Rattle.std.specs.Io.KnownBytes.{Appends};
 ghost use Rattle.catalogue.specs.Naming.{names_left};
-ghost use Rattle.nullahbowl.specs.Writing.{found_text, letter_line, letters_text, lines_of, pairs_text, table_text};
-ghost use Rattle.table.specs.Meaning.{pairs_of, rules_of};
+ghost use Rattle.nullahbowl.specs.Writing.{found_text, letter_line, letters_text, lines_of, longs_text, pairs_text, table_text};
+ghost use Rattle.table.specs.Meaning.{longs_of, pairs_of, rules_of};
 
 use crate::argument::Options;
 use catalogue::NamesFound;
@@ -34,12 +34,13 @@ fn write_names<W: Write>(out: &mut W, names: NamesFound) -> io::Result<()>
     Ok(())
 }
 
-// A table as lines that make it: the letters that weigh something, and the pairs.
+// A table as lines that make it: the letters that weigh something, the pairs, and the longer runs.
 pub fn write_table<W: Write>(out: &mut W, table: &Table) -> io::Result<()>
-    ensures { OnOk result (Appends (W.Write.contents out.old) (W.Write.contents out.new) (table_text (rules_of table.now) (pairs_of table.now))) }
+    ensures { OnOk result (Appends (W.Write.contents out.old) (W.Write.contents out.new) (table_text (rules_of table.now) (pairs_of table.now) (longs_of table.now))) }
 {
     write_letters(out, table)?;
-    write_pairs(out, table)
+    write_pairs(out, table)?;
+    write_longs(out, table)
 }
 
 // All letters that weigh something.
@@ -71,6 +72,19 @@ fn write_pairs<W: Write>(out: &mut W, table: &Table) -> io::Result<()>
     for place in 0..table.pair_count() {
         if let Some(pair) = table.pair_at(place) {
             let entry = Entry::Pair(pair);
+            writeln!(out, "{entry}")?;
+        }
+    }
+    Ok(())
+}
+
+// All longer runs.
+fn write_longs<W: Write>(out: &mut W, table: &Table) -> io::Result<()>
+    ensures { OnOk result (Appends (W.Write.contents out.old) (W.Write.contents out.new) (longs_text (longs_of table.now))) }
+{
+    for place in 0..table.long_count() {
+        if let Some(long) = table.long_at(place) {
+            let entry = Entry::Long(long);
             writeln!(out, "{entry}")?;
         }
     }

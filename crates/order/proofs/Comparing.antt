@@ -1,5 +1,11 @@
 -- Rows read side by side.
-use Rattle.std.proofs.Common.{ap, length}
+use Rattle.std.proofs.Common.{◌≡◌, ℕ, List, ◌∷◌, Some, None, Option, sym, ap, ap₂, ◌∙◌, length, arith}
+use Rattle.std.specs.Option.{option_cmp}
+use Rattle.std.specs.Ordering.{nat_cmp}
+use Rattle.std.specs.declared.cmp.Ordering.TheVariants.{Less}
+use Rattle.std.proofs.lemmas.Bool.Decides.{nat_tests}
+use Rattle.order.specs.Names.{standing}
+use Rattle.order.specs.declared.collate.Standing.TheVariants.{Before}
 use Rattle.std.proofs.lemmas.Iterator.{YieldsList}
 use Rattle.std.proofs.lemmas.Iterator.Consumers.{YieldsList-from_shown}
 use Rattle.keys.specs.declared.row.Row.{Row}
@@ -8,3 +14,11 @@ use Rattle.keys.specs.Reading.{Rowed, row_left}
 -- what the iterator over a row gives
 pub row_given : (r : Row) → YieldsList Rowed (λ x. x) r (row_left r)
 row_given r = YieldsList-from_shown Rowed (λ x. x) row_left (λ s t h. ap length h.0) (λ s x t h. h.0) r
+
+-- a row that has ended, or whose next number is smaller, is before
+pub row_less : (r s : Row) (o : Option ℕ) (x : ℕ) (rest asked : List ℕ) → Rowed r o s → asked ≡ x ∷ rest → option_cmp nat_cmp o (Some x) ≡ Less → Before ≡ standing (row_left r) asked
+row_less r s None x rest asked h e l = ap₂ standing (sym h.0) (sym e)
+row_less r s (Some y) x rest asked h e l = less y x (row_left s) rest l ∙ ap₂ standing (sym h.0) (sym e)
+  where
+    less : (y x : ℕ) (ys xs : List ℕ) → nat_cmp y x ≡ Less → Before ≡ standing (y ∷ ys) (x ∷ xs)
+    less y x ys xs l = grind (arith, nat_tests)

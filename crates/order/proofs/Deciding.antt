@@ -1,27 +1,30 @@
 -- Deciding whether a newer table keeps old names in their order.
-use Rattle.std.proofs.Common.{◌≡◌, ℕ, zero, suc, slice_index_or, ◌+◌, ◌-◌, ◌<◌, ◌≤◌, Bool, true, false, not, ◌&&◌, ◌||◌, ◌==◌, List, [], ◌∷◌, length, is_some, Bor, Some, None, Ok, Err, Option, sym, refl, ap, ap₂, ◌∙◌, subst, ◌⊎◌, inl, inr, ⊎_elim, arith}
+use Rattle.std.proofs.Common.{◌≡◌, ℕ, zero, suc, slice_index_or, ◌+◌, ◌-◌, ◌<◌, ◌≤◌, Bool, true, false, cond, not, ◌&&◌, ◌||◌, ◌==◌, List, [], ◌∷◌, length, is_some, Bor, Some, None, Ok, Err, IsErrAnd, IsTrue, ◌↔◌, Option, Result, sym, refl, ap, ap₂, ◌∙◌, subst, ◌⊎◌, inl, inr, ⊎_elim, arith}
 use Rattle.std.specs.Bool.{beq}
 use Rattle.std.specs.Cmp.{both_ways}
 use Rattle.std.specs.List.{list_all, slice_get}
 use Rattle.std.specs.Option.{option_map}
-use Rattle.table.specs.declared.piece.Letter as table_letter
-use Rattle.table.specs.declared.piece.Pair as table_pair
+use Rattle.pieces.specs.declared.piece.Letter as table_letter
+use Rattle.pieces.specs.declared.piece.Long as table_long
+use Rattle.pieces.specs.declared.piece.Pair as table_pair
 use Rattle.std.specs.Ordering.{nat_cmp}
-use Rattle.std.proofs.lemmas.Bool.{cases_lt, le-ltb, lt-ltb, or_parts, true≢false}
+use Rattle.std.proofs.lemmas.Bool.{and_parts, cases_lt, cond-false, cond-true, le-ltb, lt-ltb, or_parts, true≢false}
 use Rattle.std.proofs.lemmas.Bool.Decides.{nat_tests}
 use Rattle.std.proofs.lemmas.Option.{cond_some, none-some, same_Some, slice_get_cases, slice_get_within}
 use Rattle.keys.specs.declared.level.Level.{Level}
 use Rattle.keys.specs.declared.level.Level.TheVariants.{Primary, Secondary, Tertiary}
 use Rattle.keys.specs.Rows.{on, weight}
-use Rattle.table.specs.Meaning.{letters_of, pairs_of, rules_of}
-use Rattle.table.specs.Rules.{Rules, counts}
+use Rattle.table.specs.Meaning.{letters_of, longs_of, pairs_of, rules_of}
+use Rattle.table.specs.Laws.{IsLongOf, IsPairOf}
+use Rattle.table.specs.Rules.{Rules}
+use Rattle.pieces.specs.Runs.{counts, long_letters}
 use Rattle.table.specs.declared.view.Table.{Table}
-use Rattle.table.proofs.Lawful.{letters_listed, listed, listed_joins}
+use Rattle.table.proofs.Lawful.{letters_listed, listed, runs_fit, runs_listed}
 use Rattle.keys.proofs.Stepping.{none_on}
 use Rattle.order.specs.Changes.{Changed, Decided, FirstOf, InBoth, SameOrder, SameZero, Tested, WeighedIn, level_place}
 use Rattle.order.proofs.Keeping.{newer_tables}
 use Rattle.order.specs.Newer.{Keeps, SameRuns, is_piece, old_piece}
-use Rattle.order.specs.Pieces.{NextPiece, NoneBetween, run_in, old_at, old_in, places, run_at}
+use Rattle.order.specs.Pieces.{NextPiece, NoneBetween, joined_at, long_run, run_in, run_of, old_at, old_in, places, run_at}
 use Rattle.order.specs.declared.newer.Change.{Change}
 use Rattle.order.specs.declared.newer.Change.TheVariants.{Utf8, Joins, Counts, Order}
 use Rattle.order.specs.declared.newer.Weighed.{Weighed}
@@ -32,9 +35,18 @@ use Rattle.order.specs.declared.piece.Piece.{Piece}
 pub there_is : {X : Type 0} (xs : List X) (k : ℕ) → k < length xs → slice_get xs k ≡ None → ⊥
 there_is xs k l e = ⊎_elim (λ q. none-some q.0 (sym e ∙ q.2)) (λ q. omega (arith, l, q.0)) (slice_get_cases xs k).1
 
--- two letters are one only where they are two
-joined_two : (t : Table) (run : List ℕ) → (rules_of t).joins run ≡ true → length run ≡ 2
-joined_two t run e = let q = listed t run e in ap length q.4
+-- the change that is told
+pub err_is : (r : Result Unit Change) (c : Change) → IsErrAnd r (λ e. e ≡ c) → r ≡ Err c
+err_is (Ok x) c h = absurd h
+err_is (Err e) c h = ap Err h
+
+-- a place that is below the count of what a table lists
+pub in_places : (b t : Table) (l m n k : ℕ) → l ≡ length (letters_of b) → m ≡ length (pairs_of b) → n ≡ length (longs_of b) → b ≡ t → k < l + m + n → k < places t
+in_places b t l m n k e f g q h = subst (λ t. k < places t) q (omega arith)
+
+-- letters are one only where they are two or more
+joined_some : (t : Table) (run : List ℕ) → (rules_of t).joins run ≡ true → (length run == 1) ≡ false
+joined_some t run e = let f = (runs_fit t run e).0 in grind (arith, nat_tests)
 
 -- a run that weighs something, or is one together: the others of a table's pieces it does not list
 abbrev pub is_listed : Rules → List ℕ → Bool
@@ -54,11 +66,30 @@ module _ (s : OldPieces) where
       let l = slice_get_within (letters_of s.table.now) q.0 q.1 q.2 in
       (q.0, omega arith, let g = q.2 in let r = ap (λ x. x ∷ []) q.3 in let t = lt-ltb q.0 (length (letters_of s.table.now)) l in grind (arith, nat_tests))
 
-  at_run : (run : List ℕ) → list_all old run ≡ true → rules.joins run ≡ true → (j : ℕ) × (j < places s.table.now) × (old_at s j ≡ Some run)
-  at_run run o e =
-      let q = listed s.table.now run e in
+  -- what stands behind the letters
+  behind_letters : (j : ℕ) (run : List ℕ) → list_all old run ≡ true → joined_at s.table.now j ≡ run → old_at s (length (letters_of s.table.now) + j) ≡ Some run
+  behind_letters j run o e =
       let n = length (letters_of s.table.now) in
-      (n + q.0, omega (arith, q.2), let g = q.3 in let r = q.4 in let m : n + q.0 - n ≡ q.0 = omega arith in let t = le-ltb (n + q.0) n (omega arith) in grind (arith, nat_tests))
+      let m : n + j - n ≡ j = omega arith in
+      let f : run_at s.table.now (n + j) ≡ run = cond-false _ _ _ (le-ltb (n + j) n (omega arith)) ∙ (ap (joined_at s.table.now) m ∙ e) in
+      ap (λ r. cond (list_all old r) (Some r) None) f ∙ cond-true _ _ _ o
+
+  at_run : (run : List ℕ) → list_all old run ≡ true → rules.joins run ≡ true → (j : ℕ) × (j < places s.table.now) × (old_at s j ≡ Some run)
+  at_run run o e = ⊎_elim pair long (listed s.table.now run e)
+    where
+      pair : IsPairOf s.table.now run → (j : ℕ) × (j < places s.table.now) × (old_at s j ≡ Some run)
+      pair q =
+          let l = slice_get_within (pairs_of s.table.now) q.0 q.1 q.2 in
+          let e = cond-true _ _ _ (lt-ltb q.0 (length (pairs_of s.table.now)) l) ∙ (ap run_of q.2 ∙ sym q.3) in
+          (length (letters_of s.table.now) + q.0, omega arith, behind_letters q.0 run o e)
+
+      long : IsLongOf s.table.now run → (j : ℕ) × (j < places s.table.now) × (old_at s j ≡ Some run)
+      long q =
+          let l = slice_get_within (longs_of s.table.now) q.0 q.1 q.2 in
+          let n = length (pairs_of s.table.now) in
+          let m : n + q.0 - n ≡ q.0 = omega arith in
+          let e = cond-false _ _ _ (le-ltb (n + q.0) n (omega arith)) ∙ (ap (λ k. long_run (slice_get (longs_of s.table.now) k)) m ∙ (ap long_run q.2 ∙ sym q.3)) in
+          (length (letters_of s.table.now) + (n + q.0), omega arith, behind_letters (n + q.0) run o e)
 
   complete : (run : List ℕ) → old_piece old rules run ≡ true → is_listed rules run ≡ true → (j : ℕ) × (j < places s.table.now) × (old_at s j ≡ Some run)
   complete [] o c = at_run [] (grind arith) (grind arith)
@@ -70,20 +101,33 @@ module _ (s : OldPieces) where
   complete (a ∷ (b ∷ run)) o c = at_run (a ∷ (b ∷ run)) (grind arith) (grind (arith, nat_tests))
 
   -- and what stands at one is an old piece
+  joins_piece : (run : List ℕ) → rules.joins run ≡ true → is_piece rules run ≡ true
+  joins_piece run e = let x = length run == 1 in grind arith
+
+  joined_piece : (j : ℕ) → j < length (pairs_of s.table.now) + length (longs_of s.table.now) → is_piece rules (joined_at s.table.now j) ≡ true
+  joined_piece j l = ⊎_elim (λ h. pair (slice_get (pairs_of s.table.now) j) refl h) (λ h. long (slice_get (longs_of s.table.now) (j - length (pairs_of s.table.now))) refl h) (cases_lt j (length (pairs_of s.table.now)))
+    where
+      pair : (o : Option table_pair.Pair) → slice_get (pairs_of s.table.now) j ≡ o → j < length (pairs_of s.table.now) → is_piece rules (joined_at s.table.now j) ≡ true
+      pair None e h = absurd (there_is (pairs_of s.table.now) j h e)
+      pair (Some p) e h =
+          let q = (cond_some _ _ p.weights ((runs_listed s.table.now).pairs j p e)).0 in
+          ap (is_piece rules) (cond-true _ _ _ (lt-ltb j (length (pairs_of s.table.now)) h) ∙ ap run_of e) ∙ joins_piece (p.first ∷ (p.second ∷ [])) q
+
+      long : (o : Option table_long.Long) → slice_get (longs_of s.table.now) (j - length (pairs_of s.table.now)) ≡ o → length (pairs_of s.table.now) ≤ j → is_piece rules (joined_at s.table.now j) ≡ true
+      long None e h = absurd (there_is (longs_of s.table.now) (j - length (pairs_of s.table.now)) (omega arith) e)
+      long (Some r) e h =
+          let q = (cond_some _ _ r.weights ((runs_listed s.table.now).longs (j - length (pairs_of s.table.now)) r e)).0 in
+          ap (is_piece rules) (cond-false _ _ _ (le-ltb j (length (pairs_of s.table.now)) h) ∙ ap long_run e) ∙ joins_piece (long_letters r.run) q
+
   piece_at : (j : ℕ) → j < places s.table.now → is_piece rules (run_at s.table.now j) ≡ true
   piece_at j l = ⊎_elim
       (λ h. one (slice_get (letters_of s.table.now) j) refl h)
-      (λ h. go (slice_get (pairs_of s.table.now) (j - length (letters_of s.table.now))) refl h) (cases_lt j (length (letters_of s.table.now)))
+      (λ h. ap (is_piece rules) (cond-false _ _ _ (le-ltb j (length (letters_of s.table.now)) h)) ∙ joined_piece (j - length (letters_of s.table.now)) (omega arith)) (cases_lt j (length (letters_of s.table.now)))
     where
       one : (o : Option table_letter.Letter) → slice_get (letters_of s.table.now) j ≡ o → j < length (letters_of s.table.now) → is_piece rules (run_at s.table.now j) ≡ true
       one None e h =
           absurd (⊎_elim (λ q. none-some q.0 (sym e ∙ q.2)) (λ q. omega (arith, h, q.0)) (slice_get_cases (letters_of s.table.now) j).1)
       one (Some p) e h = let t = lt-ltb j (length (letters_of s.table.now)) h in grind (arith, nat_tests)
-
-      go : (o : Option table_pair.Pair) → slice_get (pairs_of s.table.now) (j - length (letters_of s.table.now)) ≡ o → length (letters_of s.table.now) ≤ j → is_piece rules (run_at s.table.now j) ≡ true
-      go None e h =
-          absurd (⊎_elim (λ q. none-some q.0 (sym e ∙ q.2)) (λ q. omega (arith, l, h, q.0)) (slice_get_cases (pairs_of s.table.now) (j - length (letters_of s.table.now))).1)
-      go (Some p) e h = let q = listed_joins s.table.now (j - length (letters_of s.table.now)) p e in let t = le-ltb j (length (letters_of s.table.now)) h in grind (arith, nat_tests)
 
   sound : (j : ℕ) (q : List ℕ) → j < places s.table.now → old_at s j ≡ Some q → old_piece old rules q ≡ true
   sound j q l e =
@@ -279,7 +323,7 @@ module _ (marks : List Bool) (older newer : Table) where
   -- what is one in a table is one in the other
   joined_too : (one other : Table) → ((run : List ℕ) → old_piece (old_in marks) (rules_of one) run ≡ true → is_piece (rules_of other) run ≡ true)
       → (run : List ℕ) → list_all (old_in marks) run ≡ true → (rules_of one).joins run ≡ true → (rules_of other).joins run ≡ true
-  joined_too one other h run o e = let two = joined_two one run e in let k = h run in grind (arith, nat_tests)
+  joined_too one other h run o e = let two = joined_some one run e in let k = h run in grind (arith, nat_tests)
 
   -- of the letters that a table doesn't list each is a piece
   pub all_pieces : ((run : List ℕ) → old_piece (old_in marks) (rules_of newer) run ≡ true → is_listed (rules_of newer) run ≡ true → is_piece (rules_of older) run ≡ true)
@@ -361,3 +405,36 @@ module _ (marks : List Bool) (older newer : Table) where
     runs = runs_kept a b;
     levels = λ l. record { zeros = λ p o. (b p o).1 l; order = λ p q o r. all_placed b d p q o r l };
   } in (k, newer_tables (old_in marks) (rules_of older) (rules_of newer) k)
+
+-- two changes of order are the same where their pieces and levels are
+abbrev first_of : Change → Piece → Piece
+first_of (Order p q l) d = p
+first_of Utf8 d = d
+first_of (Joins p) d = d
+first_of (Counts p l) d = d
+
+abbrev second_of : Change → Piece → Piece
+second_of (Order p q l) d = q
+second_of Utf8 d = d
+second_of (Joins p) d = d
+second_of (Counts p l) d = d
+
+abbrev level_in : Change → Level → Level
+level_in (Order p q l) d = l
+level_in Utf8 d = d
+level_in (Joins p) d = d
+level_in (Counts p l) d = d
+
+pub three_same : (x y z : Bool) (p1 q1 : Piece) (l1 : Level) (p2 q2 : Piece) (l2 : Level) → IsTrue x ↔ (p1 ≡ p2) → IsTrue y ↔ (q1 ≡ q2) → IsTrue z ↔ (l1 ≡ l2)
+    → IsTrue (x && (y && z)) ↔ (Order p1 q1 l1 ≡ Order p2 q2 l2)
+three_same x y z p1 q1 l1 p2 q2 l2 f g h = (
+  λ t. let p = and_parts x (y && z) t in let q = and_parts y z p.1 in λ i. Order (f.0 p.0 i) (g.0 q.0 i) (h.0 q.1 i),
+  λ e.
+      let a = f.1 (ap (λ c. first_of c p1) e) in
+      let b = g.1 (ap (λ c. second_of c q1) e) in
+      let c = h.1 (ap (λ c. level_in c l1) e) in
+      all_three x y z a b c,
+)
+  where
+    all_three : (x y z : Bool) → x ≡ true → y ≡ true → z ≡ true → (x && (y && z)) ≡ true
+    all_three x y z a b c = rw (a, b, c) refl

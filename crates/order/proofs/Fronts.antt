@@ -1,12 +1,15 @@
 -- What names both begin with does not decide which is before the other.
-use Rattle.std.proofs.Common.{◌≡◌, ℕ, zero, suc, ◌+◌, ◌-◌, ◌<◌, ◌≤◌, Bool, true, false, not, List, [], ◌∷◌, ◌++◌, drop, length, map, take, is_some, Some, Option, slice_index, refl, sym, ap, ap₂, ◌∙◌, add-one, arith}
-use Rattle.std.proofs.lemmas.List.{append-nil, length-drop, map-append, take-append-drop}
+use Rattle.std.proofs.Common.{◌≡◌, ℕ, zero, suc, ◌+◌, ◌-◌, ◌<◌, ◌≤◌, Bool, true, false, cond, eqb, not, List, [], ◌∷◌, ◌++◌, drop, length, map, take, is_some, Some, Option, get_or, slice_index, ⊎_elim, subst, refl, sym, ap, ap₂, ◌∙◌, add-one, arith}
+use mathlib.Core.Path.{subst⁻¹}
+use Rattle.std.proofs.lemmas.List.{append-nil, length-append, length-drop, length-take-le, map-append, take-append-drop}
 use Rattle.std.proofs.Math.Seq.{take-length}
-use Rattle.std.proofs.lemmas.Bool.{cond-true, true≢false}
+use Rattle.std.proofs.lemmas.Bool.{cases_lt, cond-true, true≢false}
 use Rattle.std.proofs.lemmas.Bool.Decides.{nat_tests}
-use Rattle.table.specs.declared.piece.Weights.{Weights}
-use Rattle.table.specs.Rules.{Rules, contraction}
-use Rattle.keys.specs.Pieces.{pieces}
+use Rattle.pieces.specs.declared.piece.Weights.{Weights}
+use Rattle.table.specs.Rules.{BeginsNone, Rules, contraction}
+use Rattle.keys.specs.Laws.{OnlyPairs, RunsFit}
+use Rattle.keys.specs.Pieces.{met, pieces, pieces_behind, taken}
+use Rattle.keys.proofs.Pieces.{met_short, met_there, taken_fits, taken_some}
 use Rattle.keys.specs.Letters.{begins_in, first_in, letters_in, one_byte}
 use Rattle.keys.specs.Rows.{row, row_of, rows, weight, without_zeros}
 use Rattle.keys.proofs.Lettering.{no_letters, parted_in, read_first, small_first, starts_in}
@@ -14,42 +17,133 @@ use Rattle.keys.specs.declared.level.Level.{Level}
 use Rattle.keys.specs.declared.level.Level.TheVariants.{Primary, Secondary, Tertiary}
 use Rattle.std.specs.Ordering.{ordering_then}
 use Rattle.std.specs.declared.cmp.Ordering.TheVariants.{Equal}
-use Rattle.order.specs.Fronts.{EndsWith, MayCut, Shared, straddles}
+use Rattle.order.specs.Fronts.{EndsWith, LastBeginNone, MayCut, NoneAcross, NoneBegins, Shared}
 use Rattle.order.specs.Rows.{by_levels, row_order}
 
+-- the first letters of a front and of what is behind it
+take_front : (k : ℕ) (p x : List ℕ) → k ≤ length p → take k (p ++ x) ≡ take k p
+take_front zero p x l = refl
+take_front (suc k) [] x l = absurd (omega arith)
+take_front (suc k) (a ∷ p) x l = ap (λ n. a ∷ n) (take_front k p x (omega arith))
+
+take_over : (p x : List ℕ) (k i : ℕ) → k ≡ length p + i → take k (p ++ x) ≡ p ++ take i x
+take_over [] x k i e = let d : k ≡ i = omega arith in ap (λ n. take n x) d
+take_over (a ∷ p) x zero i e = absurd (omega arith)
+take_over (a ∷ p) x (suc k) i e = ap (λ n. a ∷ n) (take_over p x k i (omega arith))
+
 module _ (j : List ℕ → Bool) where
-  shorter : (e : ℕ) (p x : List ℕ) → straddles j (e ∷ p) x ≡ false → straddles j p x ≡ false
-  unfolding straddles
-  shorter e [] x h = refl
-  shorter e (c ∷ p) x h = h
+  across_shorter : (a : ℕ) (p x : List ℕ) → NoneAcross j (a ∷ p) x → NoneAcross j p x
+  across_shorter a p x h f s r q e g l m = h (a ∷ f) s r q (ap (λ n. a ∷ n) e) g l m
+
+  -- runs of a front are met there whatever is behind it
+  same_met : (k : ℕ) (p x : List ℕ) → 0 < length p → NoneAcross j p x → met j k (p ++ x) ≡ met j k p
+  same_met k p x some h =
+      ⊎_elim
+      (λ l. over l)
+      (λ l. met_there j k (p ++ x) (let n = length-append p x in omega arith) ∙ (ap j (take_front k p x l) ∙ sym (met_there j k p l)))
+      (cases_lt (length p) k)
+    where
+      over : length p < k → met j k (p ++ x) ≡ met j k p
+      over l =
+          ⊎_elim
+          (λ m. met_short j k (p ++ x) (let n = length-append p x in omega arith) ∙ sym (met_short j k p l))
+          (λ m.
+          let i = k - length p in
+          let n = length-append p x in
+          let c = length-take-le i x (omega arith) in
+          let o : k ≡ length p + i = omega arith in
+          met_there j k (p ++ x) (omega arith)
+          ∙ (ap j (take_over p x k i o) ∙ (h [] p (take i x) (drop i x) refl (sym (take-append-drop i x)) some (omega arith) ∙ sym (met_short j k p l))))
+          (cases_lt (length x) (k - length p))
+
+  same_taken : (p x : List ℕ) → 0 < length p → NoneAcross j p x → taken j (p ++ x) ≡ taken j p
+  same_taken p x l h = ap₂ (λ a b. cond a 4 b) (same_met 4 p x l h) (ap₂ (λ a b. cond a 3 b) (same_met 3 p x l h) (ap (λ a. cond a 2 1) (same_met 2 p x l h)))
 
   -- pieces of a front and of what is behind it
-  parted : (p x : List ℕ) → straddles j p x ≡ false → pieces j (p ++ x) ≡ pieces j p ++ pieces j x
-  unfolding straddles pieces
-  parted [] x h = refl
-  parted (c ∷ []) [] h = refl
-  parted (c ∷ []) (d ∷ x) h = rw h
-  parted (c ∷ (e ∷ p)) x h =
-      let two = parted p x (shorter e p x h) in
-      let one = parted (e ∷ p) x h in
-      grind (arith, nat_tests)
+  behind_parted : (k : ℕ) (p x : List ℕ) → k ≤ length p → NoneAcross j p x → pieces_behind j k (p ++ x) ≡ pieces_behind j k p ++ pieces j x
+  unfolding pieces_behind
+  behind_parted zero [] x l h = refl
+  behind_parted (suc k) [] x l h = absurd (omega arith)
+  behind_parted (suc k) (a ∷ p) x l h = behind_parted k p x (omega arith) (across_shorter a p x h)
+  behind_parted zero (a ∷ p) x l h =
+      let k = taken j (a ∷ p) in
+      let f = taken_fits j a p in
+      let s = taken_some j (a ∷ p) in
+      let e = same_taken (a ∷ p) x (omega arith) h in
+      let ih = behind_parted (k - 1) p x (omega arith) (across_shorter a p x h) in
+      ap₂ (λ q qs. q ∷ qs) (ap (λ i. take i (a ∷ (p ++ x))) e ∙ take_front k (a ∷ p) x f) (ap (λ i. pieces_behind j (i - 1) (p ++ x)) e ∙ ih)
 
-  -- the test by the last letter and the next
-  by_last : (ls : List ℕ) (c d : ℕ) (x : List ℕ) → straddles j (ls ++ c ∷ []) (d ∷ x) ≡ j (c ∷ (d ∷ []))
-  unfolding straddles
-  by_last [] c d x = refl
-  by_last (e ∷ []) c d x = refl
-  by_last (e ∷ (f ∷ ls)) c d x = by_last (f ∷ ls) c d x
+  parted : (p x : List ℕ) → NoneAcross j p x → pieces j (p ++ x) ≡ pieces j p ++ pieces j x
+  parted p x h = behind_parted 0 p x (omega arith) h
 
-  none_straddles : (ls : List ℕ) → straddles j ls [] ≡ false
-  unfolding straddles
-  none_straddles [] = refl
-  none_straddles (c ∷ []) = refl
-  none_straddles (c ∷ (e ∷ ls)) = none_straddles (e ∷ ls)
+  -- nothing stands across an end
+  none_behind : (p : List ℕ) → NoneAcross j p []
+  none_behind p f s r q e g l m = absurd (let a = ap length g in let b = length-append r q in omega arith)
 
-  starts_straddle : (ls : List ℕ) → straddles j [] ls ≡ false
-  unfolding straddles
-  starts_straddle ls = refl
+  none_before : (x : List ℕ) → NoneAcross j [] x
+  none_before x f s r q e g l m = absurd (let a = ap length e in let b = length-append f s in omega arith)
+
+  -- where only two letters are one, the last and the next say it
+  across_pair : OnlyPairs j → (ls : List ℕ) (c d : ℕ) (x : List ℕ) → j (c ∷ (d ∷ [])) ≡ false → NoneAcross j (ls ++ c ∷ []) (d ∷ x)
+  across_pair only ls c d x n f s r q e g l m = go (j (s ++ r)) refl
+    where
+      last : (ls f : List ℕ) (c a : ℕ) → ls ++ c ∷ [] ≡ f ++ a ∷ [] → c ≡ a
+      last [] [] c a e = ap (λ xs. get_or xs 0 0) e
+      last [] (b ∷ []) c a e = absurd (let k = ap length e in omega arith)
+      last [] (b ∷ (b′ ∷ f)) c a e = absurd (let k = ap length e in omega arith)
+      last (b ∷ []) [] c a e = absurd (let k = ap length e in omega arith)
+      last (b ∷ (b′ ∷ ls)) [] c a e = absurd (let k = ap length e in omega arith)
+      last (b ∷ ls) (b′ ∷ f) c a e = last ls f c a (ap (drop 1) e)
+
+      pair : (s r : List ℕ) → 0 < length s → 0 < length r → length (s ++ r) ≡ 2 → ls ++ c ∷ [] ≡ f ++ s → d ∷ x ≡ r ++ q → s ++ r ≡ c ∷ (d ∷ [])
+      pair [] r l m t e g = absurd (omega arith)
+      pair (a ∷ s) [] l m t e g = absurd (omega arith)
+      pair (a ∷ []) (b ∷ []) l m t e g = ap₂ (λ y z. y ∷ (z ∷ [])) (sym (last ls f c a e)) (sym (ap (λ xs. get_or xs 0 0) g))
+      pair (a ∷ []) (b ∷ (b′ ∷ r)) l m t e g = absurd (omega arith)
+      pair (a ∷ (a′ ∷ s)) (b ∷ r) l m t e g = absurd (let k = length-append s (b ∷ r) in omega arith)
+
+      go : (b : Bool) → j (s ++ r) ≡ b → j (s ++ r) ≡ false
+      go false t = t
+      go true t = ap j (pair s r l m (only (s ++ r) t) e g) ∙ n
+
+-- where no run begins with one of the last three letters none stands across
+across_last : (t : Rules) → RunsFit t.joins → (p x : List ℕ) → LastBeginNone t p → NoneAcross t.joins p x
+across_last t fit p x h f s r q e g l m = go (t.joins (s ++ r)) refl
+  where
+    first : (s : List ℕ) → 0 < length s → p ≡ f ++ s → length (s ++ r) ≤ 4 → t.joins (s ++ r) ≡ false
+    first [] l e k = absurd (omega arith)
+    first (a ∷ s) l e k = h f a s e (let n = length-append s r in omega arith) (s ++ r)
+
+    go : (b : Bool) → t.joins (s ++ r) ≡ b → t.joins (s ++ r) ≡ false
+    go false k = k
+    go true k = first s l e (fit (s ++ r) k).1
+
+-- a letter with few behind it is one of the last
+pub among_last : (t : Rules) (ls tail : List ℕ) → NoneBegins t tail → (f : List ℕ) (a : ℕ) (s : List ℕ) → ls ++ tail ≡ f ++ a ∷ s → length s < length tail → BeginsNone t a
+unfolding NoneBegins
+among_last t [] [] h f a s e l = absurd (omega arith)
+among_last t [] (b ∷ tail) h [] a s e l = subst (BeginsNone t) (ap (λ xs. get_or xs 0 0) e) h.0
+among_last t [] (b ∷ tail) h (c ∷ f) a s e l = among_last t [] tail h.1 f a s (ap (drop 1) e) (let m = ap length e in let n = length-append f (a ∷ s) in omega arith)
+among_last t (b ∷ ls) tail h [] a s e l = absurd (let m = ap length e in let n = length-append ls tail in omega arith)
+among_last t (b ∷ ls) tail h (c ∷ f) a s e l = among_last t ls tail h f a s (ap (drop 1) e) l
+
+-- nothing is left
+pub is_nil : (n : List ℕ) → eqb (length n) 0 ≡ true → n ≡ []
+is_nil [] e = refl
+is_nil (a ∷ n) e = grind (arith, nat_tests)
+
+-- no letter has been read back yet, or one more is
+pub none_yet : (t : Rules) → NoneBegins t []
+unfolding NoneBegins
+none_yet t = tt
+
+pub one_more : (t : Rules) (a : ℕ) (tail : List ℕ) → BeginsNone t a → NoneBegins t tail → NoneBegins t (a ∷ tail)
+unfolding NoneBegins
+one_more t a tail b h = (b, h)
+
+-- where nothing else is left each letter is among these
+pub all_among : (t : Rules) (tail : List ℕ) → NoneBegins t tail → (f : List ℕ) (a : ℕ) (s : List ℕ) → tail ≡ f ++ a ∷ s → BeginsNone t a
+all_among t tail h f a s e = among_last t [] tail h f a s e (let m = ap length e in let n = length-append f (a ∷ s) in omega arith)
 
 -- a name can be cut at its end, and at its start
 pub at_end : (t : Rules) (x : List ℕ) (n : ℕ) → n ≡ length x → MayCut t x n
@@ -59,7 +153,7 @@ at_end t x n e =
     let z = ap (letters_in t.utf8) d ∙ no_letters t.utf8 in
     record {
       letters = sym (ap₂ (λ p q. p ++ q) (ap (letters_in t.utf8) f) z ∙ append-nil (letters_in t.utf8 x));
-      pieces = ap (straddles t.joins (letters_in t.utf8 (take n x))) z ∙ none_straddles t.joins (letters_in t.utf8 (take n x));
+      pieces = subst⁻¹ (NoneAcross t.joins (letters_in t.utf8 (take n x))) z (none_behind t.joins (letters_in t.utf8 (take n x)));
     }
   where
     take_whole : (x : List ℕ) (n : ℕ) → n ≡ length x → take n x ≡ x
@@ -75,26 +169,43 @@ at_start t x =
     let z = no_letters t.utf8 in
     record {
       letters = sym (ap (λ p. p ++ letters_in t.utf8 x) z);
-      pieces = ap (λ p. straddles t.joins p (letters_in t.utf8 x)) z ∙ starts_straddle t.joins (letters_in t.utf8 x);
+      pieces = subst⁻¹ (λ p. NoneAcross t.joins p (letters_in t.utf8 x)) z (none_before t.joins (letters_in t.utf8 x));
     }
 
--- and where a letter ends and another begins that is not one with it
-pub at_letters : (t : Rules) (x : List ℕ) (n a b k : ℕ) (p q : List ℕ) → p ≡ take n x → q ≡ drop n x → EndsWith t.utf8 p (Some a) → first_in t.utf8 q ≡ Some (b, k) → b < 65536
-    → t.joins (a ∷ (b ∷ [])) ≡ false → MayCut t x n
-at_letters t x n a b k p q f g (ls, e) r l j =
+-- and where a letter begins, if no run stands across
+pub at_letter : (t : Rules) (x : List ℕ) (n b k : ℕ) (q : List ℕ) → q ≡ drop n x → first_in t.utf8 q ≡ Some (b, k) → b < 65536
+    → NoneAcross t.joins (letters_in t.utf8 (take n x)) (letters_in t.utf8 q) → MayCut t x n
+at_letter t x n b k q g r l h =
     let s = parted_in t.utf8 (take n x) (drop n x) (ap (begins_in t.utf8) (sym g) ∙ starts_in t.utf8 q b k r l) in
-    let h = ap (letters_in t.utf8) (sym g) ∙ (read_first t.utf8 q b k r).0 in
     record {
       letters = ap (letters_in t.utf8) (sym (take-append-drop n x)) ∙ s;
-      pieces = ap₂ (straddles t.joins) (ap (letters_in t.utf8) (sym f) ∙ e) h ∙ (by_last t.joins ls a b (letters_in t.utf8 (drop k q)) ∙ j);
+      pieces = subst (λ m. NoneAcross t.joins (letters_in t.utf8 (take n x)) (letters_in t.utf8 m)) g h;
     }
 
+-- so it is where the last letter and the next are no pair, and there are no longer runs
+pub at_letters : (t : Rules) → OnlyPairs t.joins → (x : List ℕ) (n a i b k : ℕ) (p q : List ℕ) → p ≡ take n x → q ≡ drop n x → EndsWith t.utf8 p (Some (a, i)) → first_in t.utf8 q ≡ Some (b, k) → b < 65536
+    → t.joins (a ∷ (b ∷ [])) ≡ false → MayCut t x n
+at_letters t only x n a i b k p q f g e r l j =
+    at_letter t x n b k q g r l
+    (subst⁻¹ (λ ls. NoneAcross t.joins ls (letters_in t.utf8 q)) (ap (letters_in t.utf8) (sym f) ∙ e.2)
+    (subst⁻¹ (NoneAcross t.joins (letters_in t.utf8 (take (length p - i) p) ++ a ∷ [])) (read_first t.utf8 q b k r).0 (across_pair t.joins only (letters_in t.utf8 (take (length p - i) p)) a b (letters_in t.utf8 (drop k q)) j)))
+
+-- and where no run begins with one of the last three letters
+pub at_runs : (t : Rules) → RunsFit t.joins → (x : List ℕ) (n b k : ℕ) (q : List ℕ) → q ≡ drop n x → first_in t.utf8 q ≡ Some (b, k) → b < 65536
+    → LastBeginNone t (letters_in t.utf8 (take n x)) → MayCut t x n
+at_runs t fit x n b k q g r l h = at_letter t x n b k q g r l (across_last t fit (letters_in t.utf8 (take n x)) (letters_in t.utf8 q) h)
+
 -- the last bytes are a letter, if it takes them all
-pub last_read : (u : Bool) (n : List ℕ) (i a k : ℕ) (m : List ℕ) → m ≡ drop i n → first_in u m ≡ Some (a, k) → k ≡ length m → a < 65536 → EndsWith u n (Some a)
-last_read u n i a k m d r e l =
-    let s = parted_in u (take i n) (drop i n) (ap (begins_in u) (sym d) ∙ starts_in u m a k r l) in
-    let h = ap (letters_in u) (sym d) ∙ ((read_first u m a k r).0 ∙ ap (λ y. a ∷ letters_in u y) (all_dropped m k e) ∙ ap (λ y. a ∷ y) (no_letters u)) in
-    (letters_in u (take i n), ap (letters_in u) (sym (take-append-drop i n)) ∙ (s ∙ ap (λ y. letters_in u (take i n) ++ y) h))
+pub last_read : (u : Bool) (n : List ℕ) (i a k l : ℕ) (m : List ℕ) → m ≡ drop i n → first_in u m ≡ Some (a, k) → k ≡ length m → a < 65536 → l ≡ length m → i + l ≡ length n → EndsWith u n (Some (a, l))
+last_read u n i a k l m d r e h f g =
+    let s = parted_in u (take i n) (drop i n) (ap (begins_in u) (sym d) ∙ starts_in u m a k r h) in
+    let o = read_first u m a k r in
+    let q = ap (letters_in u) (sym d) ∙ (o.0 ∙ ap (λ y. a ∷ letters_in u y) (all_dropped m k e) ∙ ap (λ y. a ∷ y) (no_letters u)) in
+    let j : i ≡ length n - l = omega arith in (
+      (let x = o.1 in omega arith),
+      omega arith,
+      ap (letters_in u) (sym (take-append-drop i n)) ∙ (s ∙ (ap (λ y. letters_in u (take i n) ++ y) q ∙ ap (λ y. letters_in u (take y n) ++ a ∷ []) j)),
+    )
   where
     all_dropped : (m : List ℕ) (k : ℕ) → k ≡ length m → drop k m ≡ []
     all_dropped [] k e = ap (λ k. drop k []) e
@@ -119,13 +230,14 @@ last_at x n l = rw (add-one n) (go x n l)
     go (a ∷ x) (suc n) l = go x n (omega arith)
 
 -- a name can be cut between two bytes that are a letter each, and not one together
-pub at_bytes : (t : Rules) (x : List ℕ) (n : ℕ) → 0 < n → n < length x → (slice_index x (n - 1) < 65536) → (slice_index x n < 65536)
+pub at_bytes : (t : Rules) → OnlyPairs t.joins → (x : List ℕ) (n : ℕ) → 0 < n → n < length x → (slice_index x (n - 1) < 65536) → (slice_index x n < 65536)
     → one_byte t.utf8 (slice_index x (n - 1)) ≡ true → one_byte t.utf8 (slice_index x n) ≡ true → t.joins (slice_index x (n - 1) ∷ (slice_index x n ∷ [])) ≡ false → MayCut t x n
-at_bytes t x n o l f g one two j =
+at_bytes t only x n o l f g one two j =
     let e : n - 1 + 1 ≡ n = omega (arith, o) in
     let p = ap (λ k. drop (n - 1) (take k x)) (sym e) ∙ last_at x (n - 1) (omega (arith, l)) in
-    at_letters t x n (slice_index x (n - 1)) (slice_index x n) 1 (take n x) (drop n x) refl refl
-    (last_read t.utf8 (take n x) (n - 1) (slice_index x (n - 1)) 1 (slice_index x (n - 1) ∷ []) (sym p) (sym (small_first t.utf8 (slice_index x (n - 1)) [] (slice_index x (n - 1) ∷ []) refl one)) refl f)
+    let m = length-take-le n x (omega arith) in
+    at_letters t only x n (slice_index x (n - 1)) 1 (slice_index x n) 1 (take n x) (drop n x) refl refl
+    (last_read t.utf8 (take n x) (n - 1) (slice_index x (n - 1)) 1 1 (slice_index x (n - 1) ∷ []) (sym p) (sym (small_first t.utf8 (slice_index x (n - 1)) [] (slice_index x (n - 1) ∷ []) refl one)) refl f refl (omega arith))
     (sym (small_first t.utf8 (slice_index x n) (drop (n + 1) x) (drop n x) (drop_at x n l) two)) g j
 
 -- letters of which the table says nothing are not one together

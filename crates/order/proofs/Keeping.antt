@@ -1,27 +1,44 @@
 -- Newer tables: what the tests on old pieces say of names.
-use Rattle.std.proofs.Common.{◌≡◌, ℕ, Bool, true, eqb, List, [], ◌∷◌, map, refl, sym, ap, ap₂, ◌∙◌, arith}
+use Rattle.std.proofs.Common.{◌≡◌, ℕ, zero, suc, ◌-◌, Bool, true, false, ◌&&◌, ◌||◌, ◌==◌, length, take, eqb, List, [], ◌∷◌, map, refl, sym, ap, ap₂, ◌∙◌, arith}
 use Rattle.std.specs.List.{list_all}
 use Rattle.std.specs.Ordering.{nat_cmp}
+use Rattle.std.proofs.lemmas.Bool.{and_parts}
 use Rattle.std.proofs.lemmas.Bool.Decides.{nat_tests}
 use Rattle.keys.specs.declared.level.Level.{Level}
 use Rattle.keys.specs.declared.level.Level.TheVariants.{Primary, Secondary, Tertiary}
-use Rattle.keys.specs.Pieces.{pieces}
+use Rattle.keys.specs.Pieces.{pieces, pieces_behind, taken}
 use Rattle.keys.specs.Letters.{letters_in}
 use Rattle.keys.specs.Rows.{row, row_of, weight, without_zeros}
-use Rattle.keys.proofs.Pieces.{same_pieces}
+use Rattle.keys.proofs.Pieces.{all_taken, same_pieces, taken_piece}
 use Rattle.table.specs.Rules.{Rules}
 use Rattle.order.specs.Rows.{row_order}
-use Rattle.order.specs.Newer.{KeepsLevel, Rises, SameRuns, Scaled, old_piece}
+use Rattle.order.specs.Newer.{is_piece, KeepsLevel, Rises, SameRuns, Scaled, old_piece}
 use Rattle.order.specs.Laws.{NewerByScales, NewerTables}
 use Rattle.order.proofs.Names.{levels}
 
 module _ (old : ℕ → Bool) (t u : Rules) where
   -- old letters have old pieces
+  old_behind : (k : ℕ) (n : List ℕ) → list_all old n ≡ true → list_all (old_piece old t) (pieces_behind t.joins k n) ≡ true
+  unfolding pieces_behind
+  old_behind zero [] o = refl
+  old_behind (suc k) [] o = refl
+  old_behind (suc k) (a ∷ n) o = old_behind k n (and_parts (old a) (list_all old n) o).1
+  old_behind zero (a ∷ n) o =
+      let k = taken t.joins (a ∷ n) in
+      let p = take k (a ∷ n) in
+      let ih = old_behind (k - 1) n (and_parts (old a) (list_all old n) o).1 in
+      let q = taken_piece t.joins a n (λ r. is_piece t r ≡ true) (λ b. refl) (λ run e. ap (λ j. length run == 1 || j) e ∙ or_true (length run == 1)) in
+      both (old_piece old t p) (list_all (old_piece old t) (pieces_behind t.joins (k - 1) n)) (both (list_all old p) (is_piece t p) (all_taken old k (a ∷ n) o) q) ih
+    where
+      or_true : (b : Bool) → (b || true) ≡ true
+      or_true true = refl
+      or_true false = refl
+
+      both : (x y : Bool) → x ≡ true → y ≡ true → (x && y) ≡ true
+      both x y e f = rw (e, f) refl
+
   old_pieces : (n : List ℕ) → list_all old n ≡ true → list_all (old_piece old t) (pieces t.joins n) ≡ true
-  unfolding pieces
-  old_pieces [] o = refl
-  old_pieces (a ∷ []) o = grind arith
-  old_pieces (a ∷ (b ∷ xs)) o = let two = old_pieces xs in let one = old_pieces (b ∷ xs) in grind arith
+  old_pieces n o = old_behind 0 n o
 
   module _ (l : Level) (k : KeepsLevel old t u l) where
     -- the row of a level that pieces make

@@ -6,7 +6,7 @@ use Rattle.std.specs.Ordering.{is_lt, ordering_reverse}
 use Rattle.std.proofs.lemmas.Bool.{eqb-true, eqb-false}
 use Rattle.std.proofs.lemmas.Cmp.{nat_list_cmp_total, tied_itself}
 use Rattle.keys.specs.declared.level.Level.TheVariants.{Primary, Secondary}
-use Rattle.keys.specs.Pieces.{pieces}
+use Rattle.keys.specs.Pieces.{pieces_behind}
 use Rattle.keys.specs.Letters.{letters_in}
 use Rattle.keys.specs.Rows.{key, row, row_of, rows, without_zeros}
 use Rattle.keys.proofs.Bounding.{row_free}
@@ -55,7 +55,7 @@ standings_agree t a asked = (
 )
 
 pub valley_order : ValleyOrder
-unfolding pieces without_zeros letters_in row_of row key
+unfolding pieces_behind without_zeros letters_in row_of row key
 valley_order = (refl, refl, refl, refl, refl, refl)
 
 apart : (t : Rules) (ns : List (List ℕ)) → InOrder t ns → (i j : ℕ) → i ≤ j → j < length ns

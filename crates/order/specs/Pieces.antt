@@ -5,12 +5,14 @@ use Rattle.std.specs.Option.{option_map}
 use Rattle.order.specs.Newer.{is_piece}
 use Rattle.order.specs.declared.piece.OldPieces.{OldPieces}
 use Rattle.order.specs.declared.piece.Piece.{Piece}
-use Rattle.order.specs.declared.piece.Piece.TheVariants.{Letter, Pair}
-use Rattle.table.specs.declared.piece.Letter as table_letter
-use Rattle.table.specs.declared.piece.Pair as table_pair
-use Rattle.table.specs.declared.piece.Weights.{Weights}
+use Rattle.order.specs.declared.piece.Piece.TheVariants.{Four, Letter, Pair, Three}
+use Rattle.pieces.specs.declared.piece.Letter as table_letter
+use Rattle.pieces.specs.declared.piece.Long as table_long
+use Rattle.pieces.specs.declared.piece.Pair as table_pair
+use Rattle.pieces.specs.Runs.{long_letters}
+use Rattle.pieces.specs.declared.piece.Weights.{Weights}
 use Rattle.table.specs.declared.view.Table.{Table}
-use Rattle.table.specs.Meaning.{letters_of, pairs_of}
+use Rattle.table.specs.Meaning.{letters_of, longs_of, pairs_of}
 use Rattle.table.specs.Rules.{Rules}
 
 -- the letters are old that are marked; those behind the marks are not
@@ -21,14 +23,17 @@ old_in marks a = nat_lt a (length marks) && slice_index_or marks a false
 abbrev pub run_in : Piece → List ℕ
 run_in (Letter a) = a ∷ []
 run_in (Pair a b) = a ∷ (b ∷ [])
+run_in (Three a b c) = a ∷ (b ∷ (c ∷ []))
+run_in (Four a b c d) = a ∷ (b ∷ (c ∷ (d ∷ [])))
 
 -- what letters weigh, where they are a piece
 abbrev pub piece_weights : Rules → List ℕ → Option Weights
 piece_weights t run = cond (is_piece t run) (Some (t.weighs run)) None
 
--- how many places may hold a piece: one for each letter that the table lists, and behind them one for each pair
+-- how many places may hold a piece: one for each letter that the table lists, behind them one for each pair, and then one for each
+-- longer run
 abbrev pub places : Table → ℕ
-places t = length (letters_of t) + length (pairs_of t)
+places t = length (letters_of t) + (length (pairs_of t) + length (longs_of t))
 
 -- a letter, if there is one
 abbrev pub letter_run : Option table_letter.Letter → List ℕ
@@ -40,10 +45,18 @@ abbrev pub run_of : Option table_pair.Pair → List ℕ
 run_of None = []
 run_of (Some p) = p.first ∷ (p.second ∷ [])
 
+-- the letters of a longer run, if there is one
+abbrev pub long_run : Option table_long.Long → List ℕ
+long_run None = []
+long_run (Some e) = long_letters e.run
+
+-- the letters of the run at a place, counted behind the letters
+abbrev pub joined_at : Table → ℕ → List ℕ
+joined_at t k = cond (nat_lt k (length (pairs_of t))) (run_of (slice_get (pairs_of t) k)) (long_run (slice_get (longs_of t) (k - length (pairs_of t))))
+
 -- the letters at a place
 abbrev pub run_at : Table → ℕ → List ℕ
-run_at t k =
-    cond (nat_lt k (length (letters_of t))) (letter_run (slice_get (letters_of t) k)) (run_of (slice_get (pairs_of t) (k - length (letters_of t))))
+run_at t k = cond (nat_lt k (length (letters_of t))) (letter_run (slice_get (letters_of t) k)) (joined_at t (k - length (letters_of t)))
 
 -- the same, where all are old
 abbrev pub old_at : OldPieces → ℕ → Option (List ℕ)

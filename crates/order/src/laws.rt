@@ -25,5 +25,7 @@ pub fn order_laws()
     ensures laws { OrderLaws }
     ensures rules { (t : Table) → ⟦<Table<'static> as Collate>⟧.rules t ≡ rules_of t }
     ensures standings { (a b : Standing) → ⟦<Standing as Ord>⟧.cmp a b ≡ nat_cmp (along a) (along b) }
-    ensures same { ((a b : Standing) → IsTrue (⟦<Standing as PartialEq>⟧.eq a b) ↔ (a ≡ b)) × ((a b : Piece) → IsTrue (⟦<Piece as PartialEq>⟧.eq a b) ↔ (a ≡ b)) × ((a b : Change) → IsTrue (⟦<Change as PartialEq>⟧.eq a b) ↔ (a ≡ b)) }
+    ensures same_standings { (a b : Standing) → IsTrue (⟦<Standing as PartialEq>⟧.eq a b) ↔ (a ≡ b) }
+    ensures same_pieces { (a b : Piece) → IsTrue (⟦<Piece as PartialEq>⟧.eq a b) ↔ (a ≡ b) }
+    ensures same_changes { (a b : Change) → IsTrue (⟦<Change as PartialEq>⟧.eq a b) ↔ (a ≡ b) }
 {}

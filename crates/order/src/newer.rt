@@ -13,7 +13,7 @@ use table::{Table, Weights};
 pub enum Change {
     // Names are in UTF-8 under only one of the tables.
     Utf8,
-    // These letters, a pair, are one together in only one of the tables.
+    // These letters, a run, are one together in only one of the tables.
     Joins(Piece),
     // This piece weighs 0 on the level in only one of the tables.
     Counts(Piece, Level),

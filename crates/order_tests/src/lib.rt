@@ -1,4 +1,5 @@
-// Names compared on examples, where rows stand to what is asked, what a newer table keeps, and names in UTF-8.
+// Names compared on examples, where rows stand to what is asked, what a newer table keeps, runs of letters that are one, and names
+// in UTF-8.
 #![tactic(auto)]
 
 #[cfg(test)]
@@ -6,6 +7,12 @@ mod compare;
 #[cfg(test)]
 mod newer;
 #[cfg(test)]
+mod newer_runs;
+#[cfg(test)]
+mod runs;
+#[cfg(test)]
 mod standing;
 #[cfg(test)]
 mod wide;
+#[cfg(test)]
+mod wide_runs;

@@ -115,7 +115,7 @@ head_more ps n a l =
     (λ e. let o = other e in let t = ne_eqb (bucket_at ps n) a (λ q. e (sym q)) in grind (arith, nat_tests))
     (cases_eq a (bucket_at ps n))
 
-under : (n a m : ℕ) → n ≡ m → a < n → a < m
+pub under : (n a m : ℕ) → n ≡ m → a < n → a < m
 under n a m e l = omega (arith, e, l)
 
 heads_more : (ps : List ℕ) (n : ℕ) → set (heads_of ps n) (bucket_at ps n) (Some n) ≡ heads_of ps (n + 1)

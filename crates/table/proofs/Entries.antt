@@ -1,12 +1,14 @@
 -- Entries of letters above 255: looking one up, and putting one in.
-use Rattle.std.proofs.Common.{◌≡◌, ℕ, zero, suc, ◌-◌, ◌<◌, ◌≤◌, Bool, true, false, cond, eqb, ltb, List, [], ◌∷◌, ◌++◌, length, get_or, insert, Some, refl, sym, ap, ◌∙◌, ⊎_elim, arith}
+use Rattle.std.proofs.Common.{◌≡◌, ℕ, zero, suc, ◌-◌, ◌<◌, ◌≤◌, Bool, true, false, cond, eqb, leb, ltb, List, [], ◌∷◌, ◌++◌, length, get_or, Some, refl, sym, ap, ◌∙◌, ⊎_elim, arith}
 use Rattle.std.specs.List.{list_all, slice_get}
 use Rattle.std.proofs.lemmas.Bool.{and_parts, cases_Bool, eqb-true, ltb-true, true≢false}
 use Rattle.std.proofs.lemmas.Bool.Decides.{nat_tests}
-use Rattle.table.specs.declared.piece.Letter.{Letter}
+use Rattle.pieces.specs.declared.piece.Letter.{Letter}
 use Rattle.table.specs.Buffer.{is_letter_of}
-use Rattle.table.specs.Entries.{ascends, below, is_other}
-use Rattle.table.specs.Rules.{counts, nothing, weights_among}
+use Rattle.pieces.specs.Ranks.{below, put_in, rises}
+use Rattle.table.specs.Entries.{ascends, is_other}
+use Rattle.table.specs.Rules.{weights_among}
+use Rattle.pieces.specs.Runs.{counts, letter_rank, nothing}
 
 -- all letters are above a
 abbrev pub above : ℕ → List Letter → Bool
@@ -21,17 +23,19 @@ above_more : (a b : ℕ) (es : List Letter) → above b es ≡ true → a ≤ b 
 above_more a b [] h l = refl
 above_more a b (e ∷ es) h l = let ih = above_more a b es in grind (arith, nat_tests)
 
--- which letters are below, by their places
-pub is_below : (es : List Letter) (a k : ℕ) (d : Letter) → ascends es ≡ true → k < length es → ltb (get_or es k d).letter a ≡ ltb k (below es a)
-unfolding ascends below
-is_below [] a k d s l = absurd (omega arith)
-is_below (e ∷ es) a zero d s l = grind (arith, nat_tests)
-is_below (e ∷ es) a (suc k) d s l = let ih = is_below es a k d in let h = above_at e.letter es k d in grind (arith, nat_tests)
-
-pub below_most : (es : List Letter) (a : ℕ) → below es a ≤ length es
-unfolding below
-below_most [] a = omega arith
-below_most (e ∷ es) a = let ih = below_most es a in grind (arith, nat_tests)
+-- the order of entries is one of their ranks
+pub ranked : (es : List Letter) → ascends es ≡ true → rises letter_rank es ≡ true
+unfolding ascends rises
+ranked [] s = refl
+ranked (e ∷ es) s =
+    let p = and_parts (above e.letter es) (ascends es) s in
+    let ih = ranked es p.1 in
+    let f = not_below e.letter es p.0 in
+    grind arith
+  where
+    not_below : (a : ℕ) (es : List Letter) → above a es ≡ true → list_all (λ e. leb a e.letter) es ≡ true
+    not_below a [] h = refl
+    not_below a (e ∷ es) h = let ih = not_below a es in grind (arith, nat_tests)
 
 none_above : (es : List Letter) (a b : ℕ) → above b es ≡ true → a ≤ b → weights_among es a ≡ nothing
 unfolding weights_among
@@ -39,19 +43,19 @@ none_above [] a b h l = refl
 none_above (e ∷ es) a b h l = let ih = none_above es a b in grind (arith, nat_tests)
 
 -- what stands where a letter would says what it weighs: its own entry, another's, or none
-pub found_there : (es : List Letter) (a k : ℕ) (d : Letter) → ascends es ≡ true → k ≡ below es a → k < length es → (get_or es k d).letter ≡ a → weights_among es a ≡ (get_or es k d).weights
+pub found_there : (es : List Letter) (a k : ℕ) (d : Letter) → ascends es ≡ true → k ≡ below letter_rank es a → k < length es → (get_or es k d).letter ≡ a → weights_among es a ≡ (get_or es k d).weights
 unfolding ascends below weights_among
 found_there [] a k d s e l h = absurd (omega arith)
 found_there (f ∷ es) a zero d s e l h = grind (arith, nat_tests)
 found_there (f ∷ es) a (suc k) d s e l h = let ih = found_there es a k d in grind (arith, nat_tests)
 
-pub other_there : (es : List Letter) (a k : ℕ) (d : Letter) → ascends es ≡ true → k ≡ below es a → k < length es → ((get_or es k d).letter ≡ a → ⊥) → weights_among es a ≡ nothing
+pub other_there : (es : List Letter) (a k : ℕ) (d : Letter) → ascends es ≡ true → k ≡ below letter_rank es a → k < length es → ((get_or es k d).letter ≡ a → ⊥) → weights_among es a ≡ nothing
 unfolding ascends below weights_among
 other_there [] a k d s e l h = refl
 other_there (f ∷ es) a zero d s e l h = let n = none_above es a f.letter in grind (arith, nat_tests)
 other_there (f ∷ es) a (suc k) d s e l h = let ih = other_there es a k d in grind (arith, nat_tests)
 
-pub none_there : (es : List Letter) (a k : ℕ) → k ≡ below es a → length es ≤ k → weights_among es a ≡ nothing
+pub none_there : (es : List Letter) (a k : ℕ) → k ≡ below letter_rank es a → length es ≤ k → weights_among es a ≡ nothing
 unfolding below weights_among
 none_there [] a k e l = refl
 none_there (f ∷ es) a zero e l = absurd (omega arith)
@@ -85,7 +89,7 @@ has_entry (e ∷ es) a h =
 -- one entry more, at its place among the others
 module _ (e : Letter) where
   abbrev pub put : List Letter → List Letter
-  put es = insert es (below es e.letter) e
+  put es = put_in letter_rank e es
 
   pub others_put : (es : List Letter) → is_other e ≡ true → list_all is_other es ≡ true → list_all is_other (put es) ≡ true
   unfolding below

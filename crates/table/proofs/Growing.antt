@@ -1,17 +1,28 @@
 -- One pair more behind the others.
-use Rattle.std.proofs.Common.{◌≡◌, ℕ, zero, suc, ◌+◌, ◌-◌, ◌*◌, ◌/◌, ◌<◌, ◌≤◌, Bool, true, false, cond, ◌&&◌, ◌||◌, eqb, ltb, leb, List, [], ◌∷◌, ◌++◌, length, get_or, is_some, Some, None, Option, sym, refl, ap, ◌∙◌, ap₂, add-one, arith}
+use Rattle.std.proofs.Common.{◌≡◌, ℕ, zero, suc, ◌+◌, ◌-◌, ◌*◌, ◌/◌, ◌<◌, ◌≤◌, Bool, true, false, cond, not, ◌&&◌, ◌||◌, eqb, ltb, leb, List, [], ◌∷◌, ◌++◌, length, get_or, is_some, Some, None, Option, sym, refl, ap, ◌∙◌, ap₂, add-one, arith}
 use Rattle.std.specs.Option.{option_or}
 use Rattle.std.proofs.lemmas.List.FromFn.{length-map-range_with_len, get_or-map-range_with_len, map-range_with_len_more}
 use Rattle.std.proofs.lemmas.List.{ext_get_or, length-append, get_or_append_left, get_or-append_right}
-use Rattle.std.proofs.lemmas.Bool.{eq-eqb, ltb-false, or_parts}
+use Rattle.std.proofs.lemmas.Bool.{eq-eqb, leb-false, ltb-false, or_parts, true≢false}
 use Rattle.std.proofs.lemmas.Bool.Decides.{nat_tests}
-use Rattle.table.specs.declared.piece.Letter.{Letter}
-use Rattle.table.specs.declared.piece.Pair.{Pair}
+use Rattle.pieces.specs.declared.piece.Letter.{Letter}
+use Rattle.pieces.specs.declared.piece.Pair.{Pair}
 use Rattle.table.specs.declared.fault.Refusal.TheVariants.{TooMany, Foreign, Twice}
-use Rattle.table.specs.Buffer.{pair_refusal}
-use Rattle.table.specs.Numbers.{weights_at, first_at, second_at, pair_at, pairs_in, numbers_of, place_in}
-use Rattle.table.specs.Refusals.{first_place, foreign, repeated, refusal_of, at_place, unknown, last_letter}
-use Rattle.table.specs.Rules.{same_run, joins_in, weighs_in, rules_by, rules_in, with_pair, weights_of}
+use Rattle.table.specs.Buffer.{long_refusal, many_runs, pair_refusal}
+use Rattle.table.specs.Numbers.{first_at, second_at, pair_at, pairs_in, numbers_of, place_in}
+use Rattle.pieces.specs.Runs.{weights_at, same_run, long_among, long_letters, long_rank, none_twice}
+use Rattle.table.specs.Refusals.{known_long, unknown_run, first_place, foreign, repeated, refusal_of, at_place, unknown, last_letter}
+use Rattle.table.specs.Rules.{Rules, joins_in, longs_join, weighs_in, rules_by, rules_in, with_longs, with_pair, with_run, weights_of}
+use Rattle.std.specs.List.{list_all}
+use Rattle.std.proofs.lemmas.Option.{none-some}
+use Rattle.std.proofs.lemmas.List.Edits.{length-insert}
+use Rattle.pieces.specs.declared.piece.Long.{Long}
+use Rattle.pieces.specs.declared.piece.Weights.{Weights}
+use Rattle.pieces.specs.Ranks.{below, put_in, rises}
+use Rattle.pieces.proofs.Finding.{all_once}
+use Rattle.pieces.proofs.Ranking.{all_put, below_most, rises_put}
+use Rattle.table.specs.declared.fault.Refusal.{Refusal}
+use Rattle.table.proofs.Longs.{long_beside, longs_pair_joins, pair_beside}
 use Rattle.table.proofs.Places.{place_below}
 use Rattle.table.proofs.Saying.{same_rules, same_weights}
 
@@ -157,52 +168,107 @@ module _ (ls ps : List ℕ) (n : ℕ) (p : Pair) (fives : length ps ≡ 5 * n) w
           ≡ cond (leb 200 n) (Some TooMany) (cond x (Some (Foreign n)) (cond y (Some (Twice n)) None))
       go x y e = rw e (at (leb 200 n) x y)
 
--- what the numbers of pairs of a table that owns them are
-pub record KeptPairs (u : Bool) (ps : List ℕ) : Type 0 where
+-- a refusal of three tests that is none
+pub none_of_three : (a b c : Bool) (x y z : Refusal) → cond a (Some x) (cond b (Some y) (cond c (Some z) None)) ≡ None → (a ≡ false) × (b ≡ false) × (c ≡ false)
+none_of_three true b c x y z e = absurd (none-some x (sym e))
+none_of_three false true c x y z e = absurd (none-some y (sym e))
+none_of_three false false true x y z e = absurd (none-some z (sym e))
+none_of_three false false false x y z e = (refl, refl, refl)
+
+-- what the numbers of pairs of a table that owns them are, where it has so many longer runs
+pub record KeptPairs (u : Bool) (ps : List ℕ) (m : ℕ) : Type 0 where
   pub fives : length ps ≡ 5 * (length ps / 5)
-  pub few : length ps / 5 ≤ 200
+  pub few : length ps / 5 + m ≤ 200
   pub known : first_place (foreign u ps) (length ps / 5) ≡ None
   pub apart : first_place (repeated ps) (length ps / 5) ≡ None
 
-module _ (u : Bool) (ls : List ℕ) (os : List Letter) (ps : List ℕ) (p : Pair) (kept : KeptPairs u ps) where
+module _ (u : Bool) (ls : List ℕ) (os : List Letter) (ps : List ℕ) (es : List Long) (p : Pair) (kept : KeptPairs u ps (length es)) where
   fifth_more : length (ps ++ numbers_of p) / 5 ≡ length ps / 5 + 1
   fifth_more = let l = length-append ps (numbers_of p) in omega arith
 
-  pub rules_added : rules_by u ls os (ps ++ numbers_of p) (length (ps ++ numbers_of p) / 5) ≡ with_pair (rules_by u ls os ps (length ps / 5)) p
-  rules_added = let e = fifth_more in rw e (rules_more u ps _ p kept.fives ls os)
+  abbrev said : Rules
+  said = rules_by u ls os ps (length ps / 5)
+
+  pub rules_added : with_longs (rules_by u ls os (ps ++ numbers_of p) (length (ps ++ numbers_of p) / 5)) es ≡ with_pair (with_longs said es) p
+  rules_added = ap (λ t. with_longs t es) (let e = fifth_more in rw e (rules_more u ps _ p kept.fives ls os)) ∙ pair_beside said es p
 
   pub pairs_added : pairs_in (ps ++ numbers_of p) (length (ps ++ numbers_of p) / 5) ≡ pairs_in ps (length ps / 5) ++ p ∷ []
   pairs_added = let e = fifth_more in rw e (pairs_more u ps _ p kept.fives)
 
   -- what a pair that is taken is
   abbrev Free : Type 0
-  Free = (length ps / 5 < 200) × (unknown u p.first p.second ≡ false) × (is_some (place_in ps (length ps / 5) p.first p.second) ≡ false)
+  Free = (length ps / 5 + length es < 200) × (unknown u p.first p.second ≡ false) × (is_some (place_in ps (length ps / 5) p.first p.second) ≡ false)
 
-  free : pair_refusal (rules_by u ls os ps (length ps / 5)) (length ps / 5) p ≡ None → Free
-  unfolding joins_in
-  free e = (grind (arith, nat_tests), grind (arith, nat_tests), grind (arith, nat_tests))
+  module _ (e : pair_refusal (with_longs said es) (many_runs (pairs_in ps (length ps / 5)) es) p ≡ None) where
+    free : Free
+    unfolding joins_in
+    free =
+        let n = length-map-range_with_len (pair_at ps) 0 (length ps / 5) in
+        let t = none_of_three _ _ _ _ _ _ e in
+        let l = leb-false 200 (many_runs (pairs_in ps (length ps / 5)) es) t.0 in
+        (omega arith, t.1, sym (longs_pair_joins said es p.first p.second) ∙ t.2)
 
-  pub pair_below : pair_refusal (rules_by u ls os ps (length ps / 5)) (length ps / 5) p ≡ None → (p.first ≤ last_letter u) × (p.second ≤ last_letter u)
-  pair_below e =
-      let f = or_parts _ _ (free e).1 in
-      (ltb-false (last_letter u) p.first f.0, ltb-false (last_letter u) p.second f.1)
+    pub pair_below : (p.first ≤ last_letter u) × (p.second ≤ last_letter u)
+    pair_below =
+        let f = or_parts _ _ free.1 in
+        (ltb-false (last_letter u) p.first f.0, ltb-false (last_letter u) p.second f.1)
 
-  pub kept_added : pair_refusal (rules_by u ls os ps (length ps / 5)) (length ps / 5) p ≡ None → KeptPairs u (ps ++ numbers_of p)
-  kept_added e =
-      let f = free e in
-      let n = length ps / 5 in
-      let l = length-append ps (numbers_of p) in
-      let k = first_more (foreign u (ps ++ numbers_of p)) (foreign u ps) n (foreign_old u ps n p kept.fives) kept.known in
-      let r = first_more (repeated (ps ++ numbers_of p)) (repeated ps) n (repeated_old u ps n p kept.fives) kept.apart in
-      let m = fifth_more in
-      record {
-        fives = (let d = kept.fives in omega arith);
-        few = (let d = f.0 in omega arith);
-        known = rw m (k ∙ rw (foreign_new u ps n p kept.fives, f.1) refl);
-        apart = rw m (r ∙ rw (repeated_new u ps n p kept.fives, f.2) refl);
-      }
+    pub kept_added : KeptPairs u (ps ++ numbers_of p) (length es)
+    kept_added =
+        let f = free in
+        let n = length ps / 5 in
+        let l = length-append ps (numbers_of p) in
+        let k = first_more (foreign u (ps ++ numbers_of p)) (foreign u ps) n (foreign_old u ps n p kept.fives) kept.known in
+        let r = first_more (repeated (ps ++ numbers_of p)) (repeated ps) n (repeated_old u ps n p kept.fives) kept.apart in
+        let m = fifth_more in
+        record {
+          fives = (let d = kept.fives in omega arith);
+          few = (let d = f.0 in omega arith);
+          known = rw m (k ∙ rw (foreign_new u ps n p kept.fives, f.1) refl);
+          apart = rw m (r ∙ rw (repeated_new u ps n p kept.fives, f.2) refl);
+        }
 
-  -- whether it was added or not
-  pub kept_after : (qs : List ℕ) (done : Bool) → qs ≡ cond done (ps ++ numbers_of p) ps → pair_refusal (rules_by u ls os ps (length ps / 5)) (length ps / 5) p ≡ None → KeptPairs u qs
-  kept_after qs true q e = rw q (kept_added e)
-  kept_after qs false q e = rw q kept
+    -- whether it was added or not
+    pub kept_after : (qs : List ℕ) (done : Bool) → qs ≡ cond done (ps ++ numbers_of p) ps → KeptPairs u qs (length es)
+    kept_after qs true q = rw q kept_added
+    kept_after qs false q = rw q kept
+
+-- what the longer runs of a table that owns them are, where it has so many pairs
+pub record KeptLongs (u : Bool) (n : ℕ) (es : List Long) : Type 0 where
+  pub few : n + length es ≤ 200
+  pub rise : rises long_rank es ≡ true
+  pub apart : none_twice es ≡ true
+  pub known : list_all (known_long u) es ≡ true
+
+-- one longer run more, at its place among the others
+module _ (u : Bool) (ls : List ℕ) (os : List Letter) (ps : List ℕ) (es : List Long) (e : Long) (kept : KeptLongs u (length ps / 5) es) where
+  abbrev stated : Rules
+  stated = rules_by u ls os ps (length ps / 5)
+
+  module _ (h : long_refusal (with_longs stated es) (many_runs (pairs_in ps (length ps / 5)) es) e ≡ None) where
+    pub long_free : (length ps / 5 + length es < 200) × (unknown_run u (long_letters e.run) ≡ false) × (long_among es (long_letters e.run) ≡ None)
+    unfolding longs_join
+    long_free =
+        let n = length-map-range_with_len (pair_at ps) 0 (length ps / 5) in
+        let t = none_of_three _ _ _ _ _ _ h in
+        let l = leb-false 200 (many_runs (pairs_in ps (length ps / 5)) es) t.0 in
+        (omega arith, t.1, none_among (long_among es (long_letters e.run)) (or_parts (is_some (long_among es (long_letters e.run))) _ t.2).0)
+      where
+        none_among : (o : Option Weights) → is_some o ≡ false → o ≡ None
+        none_among None q = refl
+        none_among (Some w) q = absurd (true≢false q)
+
+    pub long_added : with_longs stated (put_in long_rank e es) ≡ with_run (with_longs stated es) (long_letters e.run) e.weights
+    long_added = long_beside stated es e long_free.2
+
+    pub longs_after : (fs : List Long) (done : Bool) → fs ≡ cond done (put_in long_rank e es) es → KeptLongs u (length ps / 5) fs
+    longs_after fs true q =
+        let f = long_free in
+        let l = length-insert es (below long_rank es (long_rank e)) e (below_most long_rank es (long_rank e)) in
+        rw q (record {
+          few = (let d = f.0 in omega arith);
+          rise = rises_put long_rank e es kept.rise;
+          apart = all_once es e kept.apart f.2;
+          known = all_put long_rank e (known_long u) es (ap not f.1) kept.known;
+        })
+    longs_after fs false q = rw q kept

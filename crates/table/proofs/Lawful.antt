@@ -1,24 +1,29 @@
 -- The laws of tables.
-use Rattle.std.proofs.Common.{◌≡◌, ℕ, zero, suc, ◌+◌, ◌-◌, ◌*◌, ◌<◌, ◌≤◌, Bool, map, true, false, ltb, leb, ◌&&◌, subst, List, [], ◌∷◌, length, is_some, Some, None, sym, refl, ap, ◌∙◌, ap₂, ⊎_elim, arith}
+use Rattle.std.proofs.Common.{◌≡◌, ℕ, zero, suc, ◌+◌, ◌-◌, ◌*◌, ◌<◌, ◌≤◌, Bool, map, true, false, not, ltb, leb, ◌&&◌, ◌||◌, ◌⊎◌, inl, inr, Option, subst, List, [], ◌∷◌, length, is_some, Some, None, sym, refl, ap, ◌∙◌, ap₂, ⊎_elim, arith}
 use Rattle.std.proofs.lemmas.Bool.{and_parts, or_from, le-ltb, lt-ltb, cases_Bool, cases_lt, cases_order, cond-true, cond-false, true≢false}
 use Rattle.std.proofs.lemmas.Option.{none-some, same_Some, slice_get-get_or}
 use Rattle.std.proofs.lemmas.Bool.Decides.{nat_tests}
 use Rattle.std.proofs.lemmas.List.FromFn.{length-map-range_with_len, get_or-map-range_with_len}
 use Rattle.std.specs.List.{list_all, range_with_len, slice_get}
 use Rattle.table.specs.declared.fault.Refusal.TheVariants.{Foreign, Twice}
-use Rattle.table.specs.declared.piece.Letter.{Letter}
-use Rattle.table.specs.declared.piece.Pair.{Pair}
+use Rattle.pieces.specs.declared.piece.Letter.{Letter}
+use Rattle.pieces.specs.declared.piece.Long.{Long}
+use Rattle.pieces.specs.declared.piece.LongRun.{LongRun}
+use Rattle.pieces.specs.declared.piece.Pair.{Pair}
+use Rattle.pieces.specs.Runs.{long_among, long_letters, none_twice, one_or_none, weights_at, counts}
+use Rattle.pieces.proofs.Finding.{long_has, long_listed}
 use Rattle.table.specs.declared.view.Table.{Table}
-use Rattle.table.specs.Laws.{SamePair, KnownPair, ExactlyTables, FirstForeign, FirstTwice, HeldAreTables, JustPairs, LettersListed, LettersWeigh, PairsListed, SameRefusal, ValleySays}
-use Rattle.table.specs.Meaning.{letters_in, letters_of, pairs_of, rules_of}
-use Rattle.table.specs.Numbers.{first_at, second_at, pair_at, place_in, weights_at}
-use Rattle.table.specs.Refusals.{first_place, foreign, last_letter, repeated, refusal_of}
+use Rattle.table.specs.Laws.{IsLongOf, IsPairOf, SamePair, KnownPair, ExactlyTables, FirstForeign, FirstTwice, HeldAreTables, JustPairs, LettersListed, LettersWeigh, RunsFit, RunsListed, SameRefusal, ValleySays}
+use Rattle.table.specs.Meaning.{letters_in, letters_of, longs_of, pairs_of, rules_of}
+use Rattle.table.specs.Numbers.{first_at, second_at, pair_at, place_in}
+use Rattle.table.specs.Refusals.{first_place, foreign, known_long, last_letter, repeated, refusal_of}
 use Rattle.table.specs.Entries.{ascends, is_other}
 use Rattle.utf8.specs.Letters.{is_letter}
-use Rattle.table.specs.Rules.{contraction, counts, joins_in, letter_weighs, weighs_in, weights_among, weights_of}
+use Rattle.table.specs.Rules.{Rules, contraction, longs_join, joins_in, letter_weighs, rules_by, rules_in, weighs_in, weights_among, weights_of}
 use Rattle.table.proofs.Entries.{entry_weighs, has_entry, slice_get-append_left, slice_get-append_right}
 use Rattle.table.proofs.Firsts.{first_below, first_least, first_passes, none_at, none_below}
 use Rattle.table.proofs.Growing.{refusal_more}
+use Rattle.table.proofs.Longs.{longs_alone, longs_letter, longs_pair, no_pair_joins}
 use Rattle.table.proofs.Places.{known_pair, place_below, nth_none, nth_pair}
 use Rattle.table.proofs.Valleys.{numbers, valley_kept, valley_rules}
 use Rattle.table.proofs.Refusing.{sound, no_refusal, some_or_none, by_refusal}
@@ -93,6 +98,24 @@ first_twice ls ps n k e =
       λ j l. known_pair false ps j (none_at (foreign false ps) n f.0 j l),
     )
 
+-- what holds of all holds of each
+every_at : {A : Type 0} (test : A → Bool) (es : List A) (k : ℕ) (e : A) → list_all test es ≡ true → slice_get es k ≡ Some e → test e ≡ true
+every_at test [] k e h q = absurd (none-some e q)
+every_at test (f ∷ es) zero e h q = ap test (sym (same_Some f e q)) ∙ (and_parts (test f) (list_all test es) h).0
+every_at test (f ∷ es) (suc k) e h q = every_at test es k e (and_parts (test f) (list_all test es) h).1 q
+
+-- longer runs at two places differ
+longs_differ : (es : List Long) (j k : ℕ) (e f : Long) → none_twice es ≡ true → j < k → slice_get es j ≡ Some e → slice_get es k ≡ Some f → e.run ≡ f.run → ⊥
+unfolding none_twice
+longs_differ [] j k e f s l g h q = none-some e g
+longs_differ (d ∷ es) j zero e f s l g h q = omega arith
+longs_differ (d ∷ es) zero (suc k) e f s l g h q =
+    let p = and_parts (not (is_some (long_among es (long_letters d.run)))) (none_twice es) s in
+    let i = long_listed es k f p.1 h in
+    let m = ap (λ r. is_some (long_among es (long_letters r))) (ap (λ x. x.run) (same_Some d e g) ∙ q) ∙ ap is_some i in
+    true≢false (sym p.0 ∙ ap not m)
+longs_differ (d ∷ es) (suc j) (suc k) e f s l g h q = longs_differ es j k e f (and_parts (not (is_some (long_among es (long_letters d.run)))) (none_twice es) s).1 (omega arith) g h q
+
 -- what holds of all entries holds of each
 all_at : (test : Letter → Bool) (es : List Letter) (k : ℕ) (e : Letter) → list_all test es ≡ true → slice_get es k ≡ Some e → test e ≡ true
 all_at test [] k e h q = grind arith
@@ -161,9 +184,11 @@ held_are_tables t =
         rise = λ j k e f l g h. ascending t.others.now j k e f t.ascends l g h;
         bytes = t.bytes;
         fives = t.fives;
-        few = t.pairs.few;
+        few = t.few;
         known = q;
         apart = a;
+        long_known = λ k e h. every_at (known_long t.utf8) t.longs.now k e t.long_known h;
+        long_apart = λ j k e f l g h q. longs_differ t.longs.now j k e f t.long_apart l g h q;
       },
       λ b. record { whole = t.whole; fives = t.fives; few = t.pairs.few; known = λ k l. subst (λ u. KnownPair u ps k) b (q k l); apart = a },
     )
@@ -187,7 +212,8 @@ other_listed ls os k l =
 its_weights : (t : Table) (k : ℕ) (e : Letter) → slice_get (letters_of t) k ≡ Some e → (rules_of t).weighs (e.letter ∷ []) ≡ e.weights
 unfolding weighs_in
 its_weights t k e h =
-    ⊎_elim
+    longs_letter (rules_by t.utf8 t.letters.now t.others.now t.pairs.numbers.now t.pairs.count) t.longs.now e.letter
+    ∙ ⊎_elim
     (λ l. let q = same_Some _ e (sym (byte_listed t.letters.now t.others.now k l) ∙ h) in ap (λ x. letter_weighs t.letters.now t.others.now x.letter) (sym q) ∙ (cond-true (ltb k 256) _ _ (lt-ltb k 256 l) ∙ ap (λ x. x.weights) q))
     (λ l.
     let g = sym (other_listed t.letters.now t.others.now k l) ∙ h in
@@ -197,7 +223,8 @@ its_weights t k e h =
 
 its_place_listed : (t : Table) (a : ℕ) → counts ((rules_of t).weighs (a ∷ [])) ≡ true → (k : ℕ) × (e : Letter) × (slice_get (letters_of t) k ≡ Some e) × (e.letter ≡ a)
 unfolding weighs_in
-its_place_listed t a h =
+its_place_listed t a g =
+    let h = sym (ap counts (longs_letter (rules_by t.utf8 t.letters.now t.others.now t.pairs.numbers.now t.pairs.count) t.longs.now a)) ∙ g in
     ⊎_elim
     (λ l. (a, _, byte_listed t.letters.now t.others.now a l, refl))
     (λ l.
@@ -216,52 +243,70 @@ valley_says = (valley_kept, valley_rules, refl)
 pub same_refusal : SameRefusal
 same_refusal ls ps n p e = let s = sound ls ps n e in refusal_more ls ps n p s.fives s.whole s.known s.apart
 
--- letters that are one under a table stand in its list of pairs
-pub listed : (t : Table) (run : List ℕ) → (rules_of t).joins run ≡ true → (k : ℕ) × (p : Pair) × (k < length (pairs_of t)) × (slice_get (pairs_of t) k ≡ Some p) × (run ≡ p.first ∷ (p.second ∷ []))
-listed t run e =
-    let ps = t.pairs.numbers.now in
-    let n = t.pairs.count in
-    let q = one_of_pairs ps n run e in
-    let m = length-map-range_with_len (pair_at ps) 0 n in
-    (q.0, pair_at ps q.0, omega (arith, q.1), nth_pair ps n q.0 q.1, q.2)
+-- what the letters and pairs of a table say
+abbrev plain : Table → Rules
+plain t = rules_by t.utf8 t.letters.now t.others.now t.pairs.numbers.now t.pairs.count
 
--- and those that stand there are one
-pub listed_joins : (t : Table) (k : ℕ) (p : Pair) → slice_get (pairs_of t) k ≡ Some p → (rules_of t).joins (p.first ∷ (p.second ∷ [])) ≡ true
-unfolding joins_in
-listed_joins t k p e =
-    let ps = t.pairs.numbers.now in
-    let n = t.pairs.count in
-    ⊎_elim
-    (λ l.
-    let q = same_Some (pair_at ps k) p (sym (nth_pair ps n k l) ∙ e) in
-    ap (λ x. joins_in ps n (x.first ∷ (x.second ∷ []))) (sym q)
-    ∙ ⊎_elim (λ h. h) (λ h. absurd (place_not ps n (first_at ps k) (second_at ps k) h k l refl refl)) (cases_Bool (is_some (place_in ps n (first_at ps k) (second_at ps k)))))
-    (λ l. absurd (none-some p (sym (nth_none ps n k l) ∙ e)))
-    (cases_lt k n)
+-- letters that are one under a table stand in its lists
+pub listed : (t : Table) (run : List ℕ) → (rules_of t).joins run ≡ true → IsPairOf t run ⊎ IsLongOf t run
+unfolding longs_join
+listed t run e = go (is_some (long_among t.longs.now run)) refl e
+  where
+    go : (b : Bool) → is_some (long_among t.longs.now run) ≡ b → (b || joins_in t.pairs.numbers.now t.pairs.count run) ≡ true → IsPairOf t run ⊎ IsLongOf t run
+    go true q e = inr (long_has t.longs.now run q)
+    go false q e =
+        let ps = t.pairs.numbers.now in
+        let n = t.pairs.count in
+        let p = one_of_pairs ps n run e in
+        inl (p.0, pair_at ps p.0, nth_pair ps n p.0 p.1, p.2)
 
 -- the pairs of a table that is held
 its_own : (t : Table) (k : ℕ) → k < t.pairs.count →
-    ((rules_of t).joins (first_at t.pairs.numbers.now k ∷ (second_at t.pairs.numbers.now k ∷ [])) ≡ true)
-    × ((rules_of t).weighs (first_at t.pairs.numbers.now k ∷ (second_at t.pairs.numbers.now k ∷ [])) ≡ weights_at t.pairs.numbers.now (5 * k + 2))
+    contraction (plain t) (first_at t.pairs.numbers.now k ∷ (second_at t.pairs.numbers.now k ∷ [])) ≡ Some (weights_at t.pairs.numbers.now (5 * k + 2))
 unfolding joins_in weighs_in
 its_own t k l =
-    let h = (held_are_tables t).0 in
-    let e = its_place t.pairs.numbers.now t.pairs.count h.apart k l in
-    (ap is_some e, ap (weights_of t.pairs.numbers.now) e)
+    let ps = t.pairs.numbers.now in
+    let e = its_place ps t.pairs.count (λ i j m o. once_from ps j (none_at (repeated ps) t.pairs.count t.pairs.apart j o) i m) k l in
+    cond-true _ _ _ (ap is_some e) ∙ ap (λ o. Some (weights_of ps o)) e
 
 -- with the weights that stand there
-listed_weighs : (t : Table) (k : ℕ) (p : Pair) → slice_get (pairs_of t) k ≡ Some p → contraction (rules_of t) (p.first ∷ (p.second ∷ [])) ≡ Some p.weights
-listed_weighs t k p e =
+pair_weighs : (t : Table) (k : ℕ) (p : Pair) → slice_get (pairs_of t) k ≡ Some p → contraction (rules_of t) (p.first ∷ (p.second ∷ [])) ≡ Some p.weights
+pair_weighs t k p e =
     let ps = t.pairs.numbers.now in
     let n = t.pairs.count in
-    ⊎_elim
+    longs_pair (plain t) t.longs.now p.first p.second
+    ∙ ⊎_elim
     (λ l.
     let q = same_Some (pair_at ps k) p (sym (nth_pair ps n k l) ∙ e) in
-    let j = (its_own t k l) in
-    ap (λ x. contraction (rules_of t) (x.first ∷ (x.second ∷ []))) (sym q)
-    ∙ (cond-true _ _ _ j.0 ∙ (ap Some j.1 ∙ ap (λ x. Some x.weights) q)))
+    ap (λ x. contraction (plain t) (x.first ∷ (x.second ∷ []))) (sym q)
+    ∙ (its_own t k l ∙ ap (λ x. Some x.weights) q))
     (λ l. absurd (none-some p (sym (nth_none ps n k l) ∙ e)))
     (cases_lt k n)
 
-pub pairs_listed : PairsListed
-pairs_listed t = (listed_weighs t, λ run e. let q = listed t run e in (q.0, q.1, q.3, q.4))
+long_weighs : (t : Table) (k : ℕ) (e : Long) → slice_get (longs_of t) k ≡ Some e → contraction (rules_of t) (long_letters e.run) ≡ Some e.weights
+long_weighs t k e h = longs_alone (plain t) t.longs.now (long_letters e.run) (no_pair_joins t.pairs.numbers.now t.pairs.count e.run) ∙ long_listed t.longs.now k e t.long_apart h
+
+pub runs_listed : (t : Table) → RunsListed t
+runs_listed t = record { pairs = pair_weighs t; longs = long_weighs t; no_others = listed t }
+
+pub runs_fit : RunsFit
+runs_fit t run e = ⊎_elim (λ p. (let l = ap length p.3 in omega arith, let l = ap length p.3 in omega arith)) (λ p. long_fits run p.1.run p.3) (listed t run e)
+  where
+    most : (o : Option ℕ) → length (one_or_none o) ≤ 1
+    most None = omega arith
+    most (Some d) = omega arith
+
+    long_fits : (run : List ℕ) (r : LongRun) → run ≡ long_letters r → (2 ≤ length run) × (length run ≤ 4)
+    long_fits run r e = let l = ap length e in let m = most r.fourth in (omega arith, omega arith)
+
+-- where there are no longer runs only two letters are one
+pub only_pairs : (t : Table) → length (longs_of t) ≡ 0 → (run : List ℕ) → (rules_of t).joins run ≡ true → length run ≡ 2
+only_pairs t n run e = ⊎_elim (λ p. ap length p.3) (λ p. absurd (none_there (longs_of t) p.0 p.1 n p.2)) (listed t run e)
+  where
+    none_there : (es : List Long) (k : ℕ) (e : Long) → length es ≡ 0 → slice_get es k ≡ Some e → ⊥
+    none_there [] k e n h = none-some e h
+    none_there (f ∷ es) k e n h = omega arith
+
+-- nor are there others where a table is lent as numbers
+pub lent_pairs : (ls ps : List ℕ) (n : ℕ) (run : List ℕ) → (rules_in ls ps n).joins run ≡ true → length run ≡ 2
+lent_pairs ls ps n run e = let q = one_of_pairs ps n run e in ap length q.2

@@ -5,6 +5,7 @@ pub mod Entries
 pub mod Places
 pub mod Refusing
 pub mod Saying
+pub mod Longs
 pub mod Valleys
 pub mod Setting
 pub mod Told

@@ -5,8 +5,9 @@ use Rattle.std.specs.List.{slice_get}
 use Rattle.std.specs.Option.{option_map}
 use Rattle.std.proofs.lemmas.List.FromFn.{length-map-range_with_len, get_or-map-range_with_len}
 use Rattle.std.proofs.lemmas.Option.{slice_get-get_or, slice_get_past}
-use Rattle.table.specs.Numbers.{first_at, second_at, pair_at, pairs_in, place_in, weights_at}
-use Rattle.table.specs.declared.piece.Letter.{Letter}
+use Rattle.table.specs.Numbers.{first_at, second_at, pair_at, pairs_in, place_in}
+use Rattle.pieces.specs.Runs.{weights_at}
+use Rattle.pieces.specs.declared.piece.Letter.{Letter}
 use Rattle.table.specs.Laws.{KnownPair}
 use Rattle.table.specs.Refusals.{foreign, last_letter}
 use Rattle.table.specs.Rules.{contraction, joins_in, rules_by, weighs_in, weights_of}

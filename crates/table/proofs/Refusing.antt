@@ -1,5 +1,5 @@
 -- Which refusal it is, one test after the other.
-use Rattle.std.proofs.Common.{◌≡◌, ℕ, ◌*◌, ◌<◌, ◌≤◌, ◌/◌, ◌⊎◌, List, [], ◌∷◌, length, Some, None, true, false, Ok, Err, Option, Result, IsErrAnd, is_some, sym, ap, ◌∙◌, refl, inl, inr, ⊎_elim, arith}
+use Rattle.std.proofs.Common.{◌≡◌, ℕ, ◌*◌, ◌<◌, ◌≤◌, ◌/◌, ◌⊎◌, List, [], ◌∷◌, length, Some, None, true, false, Ok, Err, Option, Result, IsErrAnd, is_some, sym, ap, ◌∙◌, refl, inl, inr, ⊎_elim, leb, cond, Bool, arith}
 use mathlib.Core.Path.{subst⁻¹}
 use Rattle.std.proofs.lemmas.Bool.{eq-eqb, ne_eqb, lt-ltb, le-ltb, cases_eq, cases_lt, true≢false}
 use Rattle.std.proofs.lemmas.Bool.Decides.{nat_tests}
@@ -7,13 +7,14 @@ use Rattle.table.specs.declared.fault.Refusal.{Refusal}
 use Rattle.table.specs.declared.fault.Refusal.TheVariants.{Letters, Shape, TooMany, Foreign, Twice}
 use Rattle.table.specs.Refusals.{at_place, first_place, foreign, repeated, refusal_of, shape_refusal, verdict}
 use Rattle.table.specs.declared.view.Table.{Table}
-use Rattle.table.specs.Buffer.{LetterAdded, buffer_letters, buffer_rules, is_letter_of, letter_refusal}
+use Rattle.table.specs.Buffer.{Added, is_letter_of, letter_refusal}
 use Rattle.table.specs.Meaning.{Checked}
-use Rattle.table.specs.Rules.{Rules, counts}
+use Rattle.table.specs.Rules.{Rules, contraction}
+use Rattle.pieces.specs.Runs.{counts}
 use Rattle.table.specs.declared.buffer.TableBuf.{TableBuf}
 use Rattle.table.specs.declared.fault.Failure.{Failure}
 use Rattle.table.specs.declared.fault.Failure.TheVariants.{Refused}
-use Rattle.table.specs.declared.piece.Letter.{Letter}
+use Rattle.pieces.specs.declared.piece.Letter.{Letter}
 
 module _ (ls ps : List ℕ) (n : ℕ) where
   pub wrong_letters : (length ls ≡ 768 → ⊥) → refusal_of ls ps n ≡ Some Letters
@@ -128,7 +129,30 @@ refused ls ps n why (Err w) h e = e ∙ ap Some (sym h)
 pub letter_free : (t : Rules) (k : ℕ) (e : Letter) → letter_refusal t k e ≡ None → counts e.weights ≡ true → (is_letter_of t.utf8 e.letter ≡ true) × (counts (t.weighs (e.letter ∷ [])) ≡ false)
 letter_free t k e n c = (grind (arith, nat_tests), grind (arith, nat_tests))
 
-pub letter_refused : (b : TableBuf) (e : Letter) (why : Refusal) (r : Result Unit (Failure Refusal)) → IsErrAnd r (λ x. x ≡ Refused why)
-    → letter_refusal (buffer_rules b) (buffer_letters b) e ≡ Some why → LetterAdded b e r b
-letter_refused b e why (Ok x) h q = absurd h
-letter_refused b e why (Err f) h q = subst⁻¹ (λ x. LetterAdded b e (Err x) b) h (q, refl)
+-- what is refused is told, and nothing changes
+pub refused_told : (refusal : Option Refusal) (there : TableBuf → Type 0) (b : TableBuf) (why : Refusal) (r : Result Unit (Failure Refusal)) → IsErrAnd r (λ x. x ≡ Refused why)
+    → refusal ≡ Some why → Added refusal there b r b
+refused_told o there b why (Ok x) h q = absurd h
+refused_told o there b why (Err x) h q = subst⁻¹ (λ x. Added o there b (Err x) b) h (q, refl)
+
+-- one run more, looked at test by test
+module _ (m n : ℕ) (b c : Bool) (e : m ≡ n) (l : m < 200) (f : b ≡ false) where
+  abbrev run_refused : Option Refusal
+  run_refused = cond (leb 200 n) (Some TooMany) (cond b (Some (Foreign n)) (cond c (Some (Twice n)) None))
+
+  room : leb 200 n ≡ false
+  room = let d : n < 200 = omega arith in grind (arith, nat_tests)
+
+  pub run_twice : c ≡ true → Err (Twice m) ≡ verdict run_refused
+  run_twice g = let r = room in rw (r, f, g, e) refl
+
+  pub run_allowed : c ≡ false → Ok tt ≡ verdict run_refused
+  run_allowed g = let r = room in rw (r, f, g) refl
+
+-- a run is one where it has weights
+pub contracted : (t : Rules) (run : List ℕ) → is_some (contraction t run) ≡ t.joins run
+contracted t run = go (t.joins run)
+  where
+    go : (j : Bool) → is_some (cond j (Some (t.weighs run)) None) ≡ j
+    go true = refl
+    go false = refl

@@ -3,10 +3,11 @@ use Rattle.std.proofs.Common.{◌≡◌, ℕ, ◌+◌, ◌*◌, ◌<◌, Bool, t
 use mathlib.Core.Path.{fun_ext}
 use Rattle.std.proofs.lemmas.List.{get_or-replicate, get_or_past, length-replicate}
 use Rattle.std.proofs.lemmas.Bool.{cases_lt}
-use Rattle.table.specs.declared.piece.Weights.{Weights}
-use Rattle.table.specs.Numbers.{place_in, weights_at}
+use Rattle.pieces.specs.declared.piece.Weights.{Weights}
+use Rattle.table.specs.Numbers.{place_in}
+use Rattle.pieces.specs.Runs.{weights_at, nothing}
 use Rattle.table.specs.Refusals.{last_letter}
-use Rattle.table.specs.Rules.{Rules, nothing, joins_in, weighs_in, weights_among, rules_by, no_rules}
+use Rattle.table.specs.Rules.{Rules, joins_in, weighs_in, weights_among, rules_by, no_rules}
 
 pub same_rules : (t u : Rules) → ((run : List ℕ) → t.joins run ≡ u.joins run) → ((run : List ℕ) → t.weighs run ≡ u.weighs run) → t.utf8 ≡ u.utf8 → t ≡ u
 same_rules t u j w b = λ i. record { joins = fun_ext j i; weighs = fun_ext w i; utf8 = b i }

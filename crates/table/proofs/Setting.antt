@@ -4,13 +4,15 @@ use Rattle.std.proofs.lemmas.List.{length-set, get_or-set_same, get_or-set_other
 use Rattle.std.proofs.lemmas.Bool.{cases_eq, eq-eqb, lt-ltb, ne_eqb}
 use Rattle.std.proofs.lemmas.List.Edits.{length-insert}
 use Rattle.std.proofs.lemmas.Bool.Decides.{nat_tests}
-use Rattle.table.specs.declared.piece.Letter.{Letter}
-use Rattle.table.specs.declared.piece.Weights.{Weights}
-use Rattle.table.specs.Numbers.{weights_at, weights_set}
+use Rattle.pieces.specs.declared.piece.Letter.{Letter}
+use Rattle.pieces.specs.declared.piece.Weights.{Weights}
+use Rattle.table.specs.Numbers.{weights_set}
+use Rattle.pieces.specs.Runs.{letter_rank, weights_at, counts, same_run}
 use Rattle.table.specs.Buffer.{letters_weighing, many_below}
-use Rattle.table.specs.Entries.{below}
-use Rattle.table.specs.Rules.{counts, same_run, weighs_in, rules_by, with_letter}
-use Rattle.table.proofs.Entries.{below_most, put, weighs_put}
+use Rattle.pieces.specs.Ranks.{below}
+use Rattle.table.specs.Rules.{weighs_in, rules_by, with_letter}
+use Rattle.table.proofs.Entries.{put, weighs_put}
+use Rattle.pieces.proofs.Ranking.{below_most}
 use Rattle.table.proofs.Saying.{same_rules, same_weights, zero_weights}
 
 pub length_written : (ls : List ℕ) (i : ℕ) (w : Weights) → length (weights_set ls i w) ≡ length ls
@@ -113,4 +115,4 @@ module _ (u : Bool) (ls : List ℕ) (os : List Letter) (ps : List ℕ) (n : ℕ)
     other_set = same_rules (rules_by u ls (put e os) ps n) (with_letter (rules_by u ls os ps n) e.letter e.weights) (λ run. refl) weighs_other refl
 
     pub one_more_other : letters_weighing ls (put e os) ≡ letters_weighing ls os + 1
-    one_more_other = let m = length-insert os (below os e.letter) e (below_most os e.letter) in omega arith
+    one_more_other = let m = length-insert os (below letter_rank os e.letter) e (below_most letter_rank os e.letter) in omega arith

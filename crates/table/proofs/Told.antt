@@ -1,21 +1,24 @@
 -- What lent records say, one record more at a time, and the first refusal of a list of them.
-use Rattle.std.proofs.Common.{◌≡◌, ℕ, zero, suc, ◌+◌, ◌-◌, ◌<◌, ◌≤◌, Bool, true, false, cond, ◌&&◌, ◌||◌, eqb, List, [], ◌∷◌, ◌++◌, length, get_or, take, drop, Some, None, Ok, Err, Option, Result, IsErrAnd, refl, sym, ap, ◌∙◌, arith}
+use Rattle.std.proofs.Common.{◌≡◌, ℕ, zero, suc, ◌+◌, ◌-◌, ◌<◌, ◌≤◌, Bool, true, false, cond, ◌&&◌, ◌||◌, eqb, ltb, List, [], ◌∷◌, ◌++◌, length, get_or, take, drop, Some, None, Ok, Err, Option, Result, IsErrAnd, ◌⊎◌, ⊎_elim, refl, sym, ap, ap₂, ◌∙◌, arith}
 use Rattle.std.specs.List.{list_any}
 use Rattle.std.specs.Option.{option_or}
-use Rattle.std.proofs.lemmas.Bool.{le-ltb}
+use Rattle.std.proofs.lemmas.Bool.{cond-false, le-ltb, or_parts, true≢false}
+use Rattle.std.proofs.lemmas.Option.{none-some}
 use Rattle.std.proofs.lemmas.Bool.Decides.{nat_tests}
 use Rattle.std.proofs.lemmas.List.Folds.{list_any-append}
 use Rattle.std.proofs.lemmas.List.Filters.{length-filter_more}
 use Rattle.utf8.specs.Letters.{is_letter}
 use Rattle.std.proofs.lemmas.List.{append_assoc, append-nil, drop_all, drop_more, length-take-le, take_more}
 use Rattle.table.specs.declared.fault.Refusal.{Refusal}
-use Rattle.table.specs.declared.piece.Letter.{Letter}
-use Rattle.table.specs.declared.piece.Pair.{Pair}
-use Rattle.table.specs.Buffer.{pair_refusal}
-use Rattle.table.specs.Records.{first_refusal, foreign_record, letter_record, letter_told, letters_refusal, many_weighing, pair_told, pairs_refusal, records_rules, records_weigh, twice_record}
-use Rattle.table.specs.Refusals.{unknown, verdict}
-use Rattle.table.specs.declared.fault.Refusal.TheVariants.{Foreign, Twice}
-use Rattle.table.specs.Rules.{counts, no_rules, nothing, same_run, with_letter, with_pair}
+use Rattle.pieces.specs.declared.piece.Letter.{Letter}
+use Rattle.pieces.specs.declared.piece.Run.{Run}
+use Rattle.pieces.specs.declared.piece.Weights.{Weights}
+use Rattle.pieces.proofs.Finding.{equal_same, same_equal}
+use Rattle.table.specs.Records.{IsFree, first_refusal, foreign_record, is_told, length_record, letter_record, letter_told, letters_refusal, many_weighing, records_rules, records_weigh, run_told, runs_refusal, twice_record}
+use Rattle.table.specs.Refusals.{unknown_run, verdict}
+use Rattle.table.specs.declared.fault.Refusal.TheVariants.{Foreign, RunLength, Twice}
+use Rattle.table.specs.Rules.{Rules, no_rules, with_letter, with_run}
+use Rattle.pieces.specs.Runs.{counts, nothing, same_run}
 use Rattle.table.proofs.Saying.{same_rules}
 
 -- looking through records
@@ -60,15 +63,24 @@ module _ {A : Type 0} (look : List A → A → Option Refusal) where
   pub passes : (xs : List A) → first_refusal look [] xs ≡ None → (k : ℕ) (d : A) → k < length xs → look (take k xs) (get_or xs k d) ≡ None
   passes = each_passes []
 
--- one pair more
-module _ (p : Pair) where
-  abbrev pub same_letters : Pair → Bool
-  same_letters q = eqb q.first p.first && eqb q.second p.second
+-- one run more
+module _ (r : Run) where
+  told_run : (rs : List Run) (run : List ℕ) → is_told rs r.letters.now ≡ false → run_told (rs ++ r ∷ []) run ≡ cond (same_run r.letters.now run) r.weights (run_told rs run)
+  unfolding run_told
+  told_run [] run n = refl
+  told_run (q ∷ rs) run n =
+      let p = or_parts (same_run q.letters.now r.letters.now) (is_told rs r.letters.now) n in
+      ap (λ w. cond (same_run q.letters.now run) q.weights w) (told_run rs run p.1)
+      ∙ turned (same_run q.letters.now run) (same_run r.letters.now run) (run_told rs run) (λ a b. apart a b p.0)
+    where
+      apart : same_run q.letters.now run ≡ true → same_run r.letters.now run ≡ true → same_run q.letters.now r.letters.now ≡ false → ⊥
+      apart a b c =
+          true≢false (sym (ap₂ same_run (same_equal q.letters.now run a) (same_equal r.letters.now run b) ∙ equal_same run) ∙ c)
 
-  told_pair : (ps : List Pair) (a b : ℕ) → list_any same_letters ps ≡ false → pair_told (ps ++ p ∷ []) a b ≡ cond (eqb p.first a && (eqb p.second b && true)) p.weights (pair_told ps a b)
-  unfolding pair_told
-  told_pair [] a b n = grind (arith, nat_tests)
-  told_pair (q ∷ ps) a b n = let ih = told_pair ps a b in grind (arith, nat_tests)
+      turned : (x y : Bool) (w : Weights) → (x ≡ true → y ≡ true → ⊥) → cond x q.weights (cond y r.weights w) ≡ cond y r.weights (cond x q.weights w)
+      turned true true w h = absurd (h refl refl)
+      turned true false w h = refl
+      turned false y w h = refl
 
   or_turned : (x y : Bool) → (x || (y || false)) ≡ (y || x)
   or_turned true true = refl
@@ -76,19 +88,28 @@ module _ (p : Pair) where
   or_turned false true = refl
   or_turned false false = refl
 
-  pub pair_more : (ls : List Letter) (ps : List Pair) → list_any same_letters ps ≡ false → with_pair (records_rules ls ps) p ≡ records_rules ls (ps ++ p ∷ [])
-  pair_more ls ps n = sym (same_rules (records_rules ls (ps ++ p ∷ [])) (with_pair (records_rules ls ps) p) joins weighs refl)
-    where
-      joins : (run : List ℕ) → list_any (λ q. same_run (q.first ∷ (q.second ∷ [])) run) (ps ++ p ∷ []) ≡ (same_run (p.first ∷ (p.second ∷ [])) run || list_any (λ q. same_run (q.first ∷ (q.second ∷ [])) run) ps)
-      joins run =
-          list_any-append (λ q. same_run (q.first ∷ (q.second ∷ [])) run) ps (p ∷ [])
-          ∙ or_turned (list_any (λ q. same_run (q.first ∷ (q.second ∷ [])) run) ps) (same_run (p.first ∷ (p.second ∷ [])) run)
+  -- two letters or more are none, and no letter alone
+  not_none : (ls : List ℕ) → 2 ≤ length ls → same_run ls [] ≡ false
+  not_none [] l = absurd (omega arith)
+  not_none (a ∷ ls) l = refl
 
-      weighs : (run : List ℕ) → records_weigh ls (ps ++ p ∷ []) run ≡ cond (same_run (p.first ∷ (p.second ∷ [])) run) p.weights (records_weigh ls ps run)
-      weighs [] = refl
-      weighs (a ∷ []) = grind (arith, nat_tests)
-      weighs (a ∷ (b ∷ [])) = told_pair ps a b n
-      weighs (a ∷ (b ∷ (c ∷ run))) = grind (arith, nat_tests)
+  not_alone : (ls : List ℕ) (a : ℕ) → 2 ≤ length ls → same_run ls (a ∷ []) ≡ false
+  not_alone [] a l = absurd (omega arith)
+  not_alone (b ∷ []) a l = absurd (omega arith)
+  not_alone (b ∷ (c ∷ ls)) a l = grind arith
+
+  pub run_more : (ls : List Letter) (rs : List Run) → is_told rs r.letters.now ≡ false → 2 ≤ length r.letters.now → with_run (records_rules ls rs) r.letters.now r.weights ≡ records_rules ls (rs ++ r ∷ [])
+  run_more ls rs n l = sym (same_rules (records_rules ls (rs ++ r ∷ [])) (with_run (records_rules ls rs) r.letters.now r.weights) joins weighs refl)
+    where
+      joins : (run : List ℕ) → is_told (rs ++ r ∷ []) run ≡ (same_run r.letters.now run || is_told rs run)
+      joins run =
+          list_any-append (λ q. same_run q.letters.now run) rs (r ∷ [])
+          ∙ or_turned (is_told rs run) (same_run r.letters.now run)
+
+      weighs : (run : List ℕ) → records_weigh ls (rs ++ r ∷ []) run ≡ cond (same_run r.letters.now run) r.weights (records_weigh ls rs run)
+      weighs [] = sym (cond-false _ _ _ (not_none r.letters.now l))
+      weighs (a ∷ []) = sym (cond-false _ _ _ (not_alone r.letters.now a l))
+      weighs (a ∷ (b ∷ run)) = told_run rs (a ∷ (b ∷ run)) n
 
 -- one entry more
 module _ (e : Letter) where
@@ -102,23 +123,21 @@ module _ (e : Letter) where
   not_told [] a c = grind (arith, nat_tests)
   not_told (f ∷ ls) a c = let ih = not_told ls a c in grind (arith, nat_tests)
 
-  pub letter_more : (ls : List Letter) (ps : List Pair) → counts e.weights ≡ true → counts (letter_told ls e.letter) ≡ false → with_letter (records_rules ls ps) e.letter e.weights ≡ records_rules (ls ++ e ∷ []) ps
-  letter_more ls ps c n = sym (same_rules (records_rules (ls ++ e ∷ []) ps) (with_letter (records_rules ls ps) e.letter e.weights) (λ run. refl) weighs refl)
+  pub letter_more : (ls : List Letter) (rs : List Run) → counts e.weights ≡ true → counts (letter_told ls e.letter) ≡ false → with_letter (records_rules ls rs) e.letter e.weights ≡ records_rules (ls ++ e ∷ []) rs
+  letter_more ls rs c n = sym (same_rules (records_rules (ls ++ e ∷ []) rs) (with_letter (records_rules ls rs) e.letter e.weights) (λ run. refl) weighs refl)
     where
-      weighs : (run : List ℕ) → records_weigh (ls ++ e ∷ []) ps run ≡ cond (same_run (e.letter ∷ []) run) e.weights (records_weigh ls ps run)
+      weighs : (run : List ℕ) → records_weigh (ls ++ e ∷ []) rs run ≡ cond (same_run (e.letter ∷ []) run) e.weights (records_weigh ls rs run)
       weighs [] = refl
       weighs (a ∷ []) = told_letter ls a c n
-      weighs (a ∷ (b ∷ [])) = grind (arith, nat_tests)
-      weighs (a ∷ (b ∷ (d ∷ run))) = grind (arith, nat_tests)
+      weighs (a ∷ (b ∷ run)) = grind (arith, nat_tests)
 
-  pub none_more : (ls : List Letter) (ps : List Pair) → counts e.weights ≡ false → records_rules ls ps ≡ records_rules (ls ++ e ∷ []) ps
-  none_more ls ps c = sym (same_rules (records_rules (ls ++ e ∷ []) ps) (records_rules ls ps) (λ run. refl) weighs refl)
+  pub none_more : (ls : List Letter) (rs : List Run) → counts e.weights ≡ false → records_rules ls rs ≡ records_rules (ls ++ e ∷ []) rs
+  none_more ls rs c = sym (same_rules (records_rules (ls ++ e ∷ []) rs) (records_rules ls rs) (λ run. refl) weighs refl)
     where
-      weighs : (run : List ℕ) → records_weigh (ls ++ e ∷ []) ps run ≡ records_weigh ls ps run
+      weighs : (run : List ℕ) → records_weigh (ls ++ e ∷ []) rs run ≡ records_weigh ls rs run
       weighs [] = refl
       weighs (a ∷ []) = not_told ls a c
-      weighs (a ∷ (b ∷ [])) = refl
-      weighs (a ∷ (b ∷ (d ∷ run))) = refl
+      weighs (a ∷ (b ∷ run)) = refl
 
 -- whether an entry tells what a letter weighs
 pub any_told : (a : ℕ) (es : List Letter) → list_any (λ e. eqb e.letter a && counts e.weights) es ≡ counts (letter_told es a)
@@ -127,18 +146,28 @@ any_told a [] = refl
 any_told a (e ∷ es) = let ih = any_told a es in grind (arith, nat_tests)
 
 -- what is found at a place
-pub foreign_at : (ps : List Pair) (k : ℕ) (p : Pair) (b : Bool) → k < length ps → unknown true p.first p.second ≡ b → foreign_record (take k ps) p ≡ cond b (Some (Foreign k)) None
-foreign_at ps k p b l e = let n = length-take-le k ps (omega arith) in rw (e, n)
+pub foreign_at : (rs : List Run) (k : ℕ) (r : Run) (b : Bool) → k < length rs → unknown_run true r.letters.now ≡ b → foreign_record (take k rs) r ≡ cond b (Some (Foreign k)) None
+foreign_at rs k r b l e = let n = length-take-le k rs (omega arith) in rw (e, n)
 
-pub twice_at : (ps : List Pair) (k : ℕ) (p : Pair) (b : Bool) → k < length ps → list_any (same_letters p) (take k ps) ≡ b → twice_record (take k ps) p ≡ cond b (Some (Twice k)) None
-twice_at ps k p b l e = let n = length-take-le k ps (omega arith) in rw (e, n)
+pub twice_at : (rs : List Run) (k : ℕ) (r : Run) (b : Bool) → k < length rs → is_told (take k rs) r.letters.now ≡ b → twice_record (take k rs) r ≡ cond b (Some (Twice k)) None
+twice_at rs k r b l e = let n = length-take-le k rs (omega arith) in rw (e, n)
+
+pub length_at : (rs : List Run) (k : ℕ) (r : Run) (b : Bool) → k < length rs → (ltb (length r.letters.now) 2 || ltb 4 (length r.letters.now)) ≡ b → length_record (take k rs) r ≡ cond b (Some (RunLength k)) None
+length_at rs k r b l e = let n = length-take-le k rs (omega arith) in rw (e, n)
 
 -- a record that stands for none, since a place beyond the last one is asked for with something to answer
-abbrev pub no_pair : Pair
-no_pair = record { first = 0; second = 0; weights = nothing }
-
 abbrev pub no_letter : Letter
 no_letter = record { letter = 0; weights = nothing }
+
+abbrev pub no_run : Run
+no_run = record { letters = record { ref_ptr = (0, 0); now = [] }; weights = nothing }
+
+-- whether so many letters are too few or too many
+pub unfit : (n : ℕ) → (n < 2) ⊎ (4 < n) → (ltb n 2 || ltb 4 n) ≡ true
+unfit n l = ⊎_elim (λ a. grind (arith, nat_tests)) (λ a. grind (arith, nat_tests)) l
+
+pub fit : (n : ℕ) → 2 ≤ n → n ≤ 4 → (ltb n 2 || ltb 4 n) ≡ false
+fit n l m = grind (arith, nat_tests)
 
 pub none_off : (k : ℕ) → k - 0 ≡ k
 none_off k = omega arith
@@ -151,15 +180,28 @@ pub letters_refused : (ls : List Letter) (why : Refusal) (r : Result Unit Refusa
 letters_refused ls why (Ok x) h e = absurd h
 letters_refused ls why (Err w) h e = ap Err h ∙ ap verdict (sym e)
 
--- what is refused of the next pair, which none of the records is
-pub pair_free : (ps : List Pair) → pairs_refusal ps ≡ None → (k : ℕ) → k < length ps →
-    (pair_refusal (records_rules [] (take k ps)) (length (take k ps)) (get_or ps k no_pair) ≡ None) × (list_any (same_letters (get_or ps k no_pair)) (take k ps) ≡ false)
-pair_free ps e k l =
-    let p = get_or ps k no_pair in
-    let n = length-take-le k ps (omega arith) in
-    let few : length ps ≤ 200 = grind (arith, nat_tests) in
-    let f = passes foreign_record ps (grind arith) k no_pair l in
-    let t = passes twice_record ps (grind arith) k no_pair l in
+-- the next run of which none is refused is free, and has two to four letters
+pub run_free : (rs : List Run) → runs_refusal rs ≡ None → (k : ℕ) (d : Run) → k < length rs → (t : Rules) (n : ℕ) → t ≡ records_rules [] (take k rs) → n ≡ length (take k rs)
+    → IsFree t n (get_or rs k d).letters.now
+run_free rs e k d l t n q m =
+    let r = get_or rs k d in
+    let h = length-take-le k rs (omega arith) in
+    let few : length rs ≤ 200 = grind (arith, nat_tests) in
+    let f = passes foreign_record rs (grind arith) k d l in
+    let g = passes twice_record rs (grind arith) k d l in
+    record {
+      room = omega arith;
+      known = ap (λ u. unknown_run u r.letters.now) (ap (λ x. x.utf8) q) ∙ none_some (unknown_run true r.letters.now) (Foreign (length (take k rs))) f;
+      apart = ap (λ x. x.joins r.letters.now) q ∙ none_some (is_told (take k rs) r.letters.now) (Twice (length (take k rs))) g;
+    }
+  where
+    none_some : (b : Bool) (why : Refusal) → cond b (Some why) None ≡ None → b ≡ false
+    none_some true why e = absurd (none-some why (sym e))
+    none_some false why e = refl
+
+pub run_fits : (rs : List Run) → first_refusal length_record [] rs ≡ None → (k : ℕ) (d : Run) → k < length rs → (2 ≤ length (get_or rs k d).letters.now) × (length (get_or rs k d).letters.now ≤ 4)
+run_fits rs e k d l =
+    let f = passes length_record rs e k d l in
     (grind (arith, nat_tests), grind (arith, nat_tests))
 
 -- nor is an entry that weighs something
@@ -170,18 +212,21 @@ entry_free ls e k l c =
     (grind (arith, nat_tests), grind (arith, nat_tests))
 
 -- one more of the records says what it says
-pub pair_said : (ps : List Pair) → pairs_refusal ps ≡ None → (k : ℕ) → k < length ps → with_pair (records_rules [] (take k ps)) (get_or ps k no_pair) ≡ records_rules [] (take (k + 1) ps)
-pair_said ps e k l = pair_more (get_or ps k no_pair) [] (take k ps) (pair_free ps e k l).1 ∙ ap (records_rules []) (sym (take_more ps k no_pair l))
+pub run_said : (rs : List Run) → runs_refusal rs ≡ None → first_refusal length_record [] rs ≡ None → (k : ℕ) (d : Run) → k < length rs
+    → with_run (records_rules [] (take k rs)) (get_or rs k d).letters.now (get_or rs k d).weights ≡ records_rules [] (take (k + 1) rs)
+run_said rs e f k d l =
+    let q = run_free rs e k d l (records_rules [] (take k rs)) (length (take k rs)) refl refl in
+    run_more (get_or rs k d) [] (take k rs) q.apart (run_fits rs f k d l).0 ∙ ap (records_rules []) (sym (take_more rs k d l))
 
-pub letter_said : (ls : List Letter) (ps : List Pair) → letters_refusal ls ≡ None → (k : ℕ) → k < length ls → (e : Letter) → e ≡ get_or ls k no_letter → counts e.weights ≡ true →
-    with_letter (records_rules (take k ls) ps) e.letter e.weights ≡ records_rules (take (k + 1) ls) ps
-letter_said ls ps n k l e q c =
+pub letter_said : (ls : List Letter) (rs : List Run) → letters_refusal ls ≡ None → (k : ℕ) → k < length ls → (e : Letter) → e ≡ get_or ls k no_letter → counts e.weights ≡ true →
+    with_letter (records_rules (take k ls) rs) e.letter e.weights ≡ records_rules (take (k + 1) ls) rs
+letter_said ls rs n k l e q c =
     let f = entry_free ls n k l (ap (λ x. counts x.weights) (sym q) ∙ c) in
-    letter_more e (take k ls) ps c (ap (λ x. counts (letter_told (take k ls) x.letter)) q ∙ f.1)
-    ∙ (ap (λ x. records_rules (take k ls ++ x ∷ []) ps) q ∙ ap (λ xs. records_rules xs ps) (sym (take_more ls k no_letter l)))
+    letter_more e (take k ls) rs c (ap (λ x. counts (letter_told (take k ls) x.letter)) q ∙ f.1)
+    ∙ (ap (λ x. records_rules (take k ls ++ x ∷ []) rs) q ∙ ap (λ xs. records_rules xs rs) (sym (take_more ls k no_letter l)))
 
-pub nothing_said : (ls : List Letter) (ps : List Pair) (k : ℕ) → k < length ls → counts (get_or ls k no_letter).weights ≡ false → records_rules (take k ls) ps ≡ records_rules (take (k + 1) ls) ps
-nothing_said ls ps k l c = none_more (get_or ls k no_letter) (take k ls) ps c ∙ ap (λ xs. records_rules xs ps) (sym (take_more ls k no_letter l))
+pub nothing_said : (ls : List Letter) (rs : List Run) (k : ℕ) → k < length ls → counts (get_or ls k no_letter).weights ≡ false → records_rules (take k ls) rs ≡ records_rules (take (k + 1) ls) rs
+nothing_said ls rs k l c = none_more (get_or ls k no_letter) (take k ls) rs c ∙ ap (λ xs. records_rules xs rs) (sym (take_more ls k no_letter l))
 
 -- how many weigh something
 pub many_said : (ls : List Letter) (k : ℕ) (b : Bool) → k < length ls → counts (get_or ls k no_letter).weights ≡ b → many_weighing (take (k + 1) ls) ≡ many_weighing (take k ls) + cond b 1 0
@@ -189,11 +234,17 @@ many_said ls k b l c = length-filter_more (λ e. counts e.weights) ls k no_lette
 
 -- no records say nothing
 pub none_told : no_rules true ≡ records_rules [] []
-unfolding letter_told pair_told
+unfolding letter_told run_told
 none_told = same_rules (no_rules true) (records_rules [] []) (λ run. refl) weighs refl
   where
     weighs : (run : List ℕ) → nothing ≡ records_weigh [] [] run
     weighs [] = refl
     weighs (a ∷ []) = refl
-    weighs (a ∷ (b ∷ [])) = refl
-    weighs (a ∷ (b ∷ (c ∷ run))) = refl
+    weighs (a ∷ (b ∷ run)) = refl
+
+-- so many records, and one more
+pub one_more : (rs : List Run) (k n : ℕ) → n ≡ length (take k rs) → k < length rs → n + 1 ≡ length (take (k + 1) rs)
+one_more rs k n e l =
+    let m = length-take-le k rs (omega arith) in
+    let o = length-take-le (k + 1) rs (omega arith) in
+    omega arith

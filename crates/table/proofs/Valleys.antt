@@ -3,9 +3,10 @@ use Rattle.std.proofs.Common.{◌≡◌, ℕ, ◌+◌, ◌*◌, ◌/◌, ◌%◌
 use Rattle.std.proofs.lemmas.List.FromFn.{length-map-range_with_len, get_or-map-range_with_len}
 use Rattle.std.proofs.lemmas.Bool.{cases_lt, lt-ltb, le-ltb}
 use Rattle.std.proofs.lemmas.Bool.Decides.{nat_tests}
-use Rattle.table.specs.Numbers.{weights_at, place_in}
+use Rattle.table.specs.Numbers.{place_in}
+use Rattle.pieces.specs.Runs.{weights_at, nothing, same_run}
 use Rattle.table.specs.Refusals.{refusal_of, first_place}
-use Rattle.table.specs.Rules.{nothing, letter_weighs, same_run, joins_in, weighs_in, weights_among, rules_in}
+use Rattle.table.specs.Rules.{letter_weighs, joins_in, weighs_in, weights_among, rules_in}
 use Rattle.table.specs.Valley.{valley, valley_letter, valley_weighs, valley_list, valley_pair, level}
 use Rattle.table.proofs.Saying.{same_rules, same_weights}
 

@@ -1,29 +1,44 @@
--- What a table that is filled step by step says, and what a letter or a pair that is added changes.
+-- What a table that is filled step by step says, and what a letter or a run that is added changes.
 use Rattle.std.specs.Prelude.{◌≡◌, ℕ, zero, suc, ◌+◌, ◌*◌, ◌/◌, Bool, cond, not, List, [], ◌∷◌, ◌++◌, length, Some, None, Ok, Err, vec_items, Option, Result, nat_le, nat_lt}
 use Rattle.std.specs.declared.alloc.AllocError.{AllocError}
+use Rattle.pieces.specs.declared.piece.Letter.{Letter}
+use Rattle.pieces.specs.declared.piece.Long.{Long}
+use Rattle.pieces.specs.declared.piece.Pair.{Pair}
+use Rattle.pieces.specs.Ranks.{put_in}
+use Rattle.pieces.specs.Runs.{counts, long_letters, long_rank, weights_at}
 use Rattle.table.specs.declared.fault.Failure.{Failure}
 use Rattle.table.specs.declared.fault.Failure.TheVariants.{Refused, NoMemory}
 use Rattle.table.specs.declared.buffer.TableBuf.{TableBuf}
 use Rattle.table.specs.declared.fault.Refusal.{Refusal}
 use Rattle.table.specs.declared.fault.Refusal.TheVariants.{TooMany, Foreign, Twice, TooManyLetters, NoLetter, LetterTwice}
-use Rattle.table.specs.declared.piece.Letter.{Letter}
-use Rattle.table.specs.declared.piece.Pair.{Pair}
-use Rattle.table.specs.Numbers.{pairs_in, weights_at}
-use Rattle.table.specs.Refusals.{unknown}
-use Rattle.table.specs.Rules.{Rules, counts, rules_by, with_letter, with_pair}
+use Rattle.table.specs.Numbers.{pairs_in}
+use Rattle.table.specs.Refusals.{unknown, unknown_run}
+use Rattle.table.specs.Rules.{Rules, rules_by, with_letter, with_longs, with_pair, with_run}
 use Rattle.utf8.specs.Letters.{is_letter}
 
 -- how many pairs it has: five numbers each
 abbrev pub buffer_count : TableBuf → ℕ
 buffer_count b = length (vec_items b.pairs) / 5
 
--- what it says
-abbrev pub buffer_rules : TableBuf → Rules
-buffer_rules b = rules_by b.utf8 (vec_items b.letters) (vec_items b.others) (vec_items b.pairs) (buffer_count b)
-
 -- its pairs, in the order in which they were added
 abbrev pub buffer_pairs : TableBuf → List Pair
 buffer_pairs b = pairs_in (vec_items b.pairs) (buffer_count b)
+
+-- its runs of three and four letters, in the order in which they are looked up
+abbrev pub buffer_longs : TableBuf → List Long
+buffer_longs b = vec_items b.longs
+
+-- how many runs these are
+abbrev pub many_runs : List Pair → List Long → ℕ
+many_runs ps es = length ps + length es
+
+-- how many runs it has
+abbrev pub buffer_runs : TableBuf → ℕ
+buffer_runs b = many_runs (buffer_pairs b) (buffer_longs b)
+
+-- what it says
+abbrev pub buffer_rules : TableBuf → Rules
+buffer_rules b = with_longs (rules_by b.utf8 (vec_items b.letters) (vec_items b.others) (vec_items b.pairs) (buffer_count b)) (buffer_longs b)
 
 -- how many numbers below n pass the test
 unfoldable pub many_below : (ℕ → Bool) → (n : ℕ) → ℕ
@@ -55,45 +70,56 @@ letter_refusal t k e = cond (not (counts e.weights)) None (cond (nat_le 2000 k) 
 abbrev pub with_entry : Rules → Letter → Rules
 with_entry t e = cond (counts e.weights) (with_letter t e.letter e.weights) t
 
--- one more weighs something; or there is no memory, and nothing changes
-abbrev pub LetterWritten : TableBuf → Letter → Result Unit AllocError → TableBuf → Type 0
-LetterWritten b e (Ok x) c =
-    (buffer_rules c ≡ with_letter (buffer_rules b) e.letter e.weights) × (buffer_letters c ≡ buffer_letters b + 1) × (buffer_pairs c ≡ buffer_pairs b)
-LetterWritten b e (Err x) c = (buffer_rules c ≡ buffer_rules b) × (buffer_letters c ≡ buffer_letters b) × (buffer_pairs c ≡ buffer_pairs b)
-
--- the letter is added where nothing speaks against it; what is turned away, or finds no memory, changes nothing
-abbrev pub LetterAdded : TableBuf → Letter → Result Unit (Failure Refusal) → TableBuf → Type 0
-LetterAdded b e (Ok x) c =
-    (letter_refusal (buffer_rules b) (buffer_letters b) e ≡ None)
-    × (buffer_rules c ≡ with_entry (buffer_rules b) e)
-    × (buffer_letters c ≡ buffer_letters b + cond (counts e.weights) 1 0)
-    × (buffer_pairs c ≡ buffer_pairs b)
-LetterAdded b e (Err (Refused why)) c = (letter_refusal (buffer_rules b) (buffer_letters b) e ≡ Some why) × (c ≡ b)
-LetterAdded b e (Err NoMemory) c =
-    (letter_refusal (buffer_rules b) (buffer_letters b) e ≡ None)
-    × (buffer_rules c ≡ buffer_rules b) × (buffer_letters c ≡ buffer_letters b) × (buffer_pairs c ≡ buffer_pairs b)
-
--- the refusal of one pair more, at place k of a table
+-- the refusal of one pair more, where a table has so many runs
 abbrev pub pair_refusal : Rules → (k : ℕ) → Pair → Option Refusal
 pair_refusal t k p =
     cond (nat_le 200 k) (Some TooMany)
     (cond (unknown t.utf8 p.first p.second) (Some (Foreign k))
     (cond (t.joins (p.first ∷ (p.second ∷ []))) (Some (Twice k)) None))
 
--- one pair more behind the others; or there is no memory, and nothing changes
-abbrev pub PairWritten : TableBuf → Pair → Result Unit AllocError → TableBuf → Type 0
-PairWritten b p (Ok x) c = (buffer_rules c ≡ with_pair (buffer_rules b) p) × (buffer_letters c ≡ buffer_letters b) × (buffer_pairs c ≡ buffer_pairs b ++ p ∷ [])
-PairWritten b p (Err x) c = (buffer_rules c ≡ buffer_rules b) × (buffer_letters c ≡ buffer_letters b) × (buffer_pairs c ≡ buffer_pairs b)
+-- the same of a longer run
+abbrev pub long_refusal : Rules → (k : ℕ) → Long → Option Refusal
+long_refusal t k e =
+    cond (nat_le 200 k) (Some TooMany)
+    (cond (unknown_run t.utf8 (long_letters e.run)) (Some (Foreign k))
+    (cond (t.joins (long_letters e.run)) (Some (Twice k)) None))
 
--- the pair is added where nothing speaks against it; what is turned away, or finds no memory, changes nothing
-abbrev pub Added : TableBuf → Pair → Result Unit (Failure Refusal) → TableBuf → Type 0
-Added b p (Ok x) c =
-    (pair_refusal (buffer_rules b) (length (buffer_pairs b)) p ≡ None)
-    × (buffer_rules c ≡ with_pair (buffer_rules b) p)
-    × (buffer_letters c ≡ buffer_letters b)
-    × (buffer_pairs c ≡ buffer_pairs b ++ p ∷ [])
-Added b p (Err (Refused why)) c =
-    (pair_refusal (buffer_rules b) (length (buffer_pairs b)) p ≡ Some why) × (c ≡ b)
-Added b p (Err NoMemory) c =
-    (pair_refusal (buffer_rules b) (length (buffer_pairs b)) p ≡ None)
-    × (buffer_rules c ≡ buffer_rules b) × (buffer_letters c ≡ buffer_letters b) × (buffer_pairs c ≡ buffer_pairs b)
+-- what both say, and what they list, is the same
+abbrev pub SameBuffer : TableBuf → TableBuf → Type 0
+SameBuffer b c =
+    (buffer_rules c ≡ buffer_rules b) × (buffer_letters c ≡ buffer_letters b) × (buffer_pairs c ≡ buffer_pairs b) × (buffer_longs c ≡ buffer_longs b)
+
+-- a letter that weighs something is there
+abbrev pub LetterIn : TableBuf → Letter → TableBuf → Type 0
+LetterIn b e c =
+    (buffer_rules c ≡ with_letter (buffer_rules b) e.letter e.weights) × (buffer_letters c ≡ buffer_letters b + 1)
+    × (buffer_pairs c ≡ buffer_pairs b) × (buffer_longs c ≡ buffer_longs b)
+
+-- an entry has been taken: it is there if it weighs something
+abbrev pub EntryIn : TableBuf → Letter → TableBuf → Type 0
+EntryIn b e c =
+    (buffer_rules c ≡ with_entry (buffer_rules b) e) × (buffer_letters c ≡ buffer_letters b + cond (counts e.weights) 1 0)
+    × (buffer_pairs c ≡ buffer_pairs b) × (buffer_longs c ≡ buffer_longs b)
+
+-- a pair is there, behind the others
+abbrev pub PairIn : TableBuf → Pair → TableBuf → Type 0
+PairIn b p c =
+    (buffer_rules c ≡ with_pair (buffer_rules b) p) × (buffer_letters c ≡ buffer_letters b)
+    × (buffer_pairs c ≡ buffer_pairs b ++ p ∷ []) × (buffer_longs c ≡ buffer_longs b)
+
+-- a longer run is there, at its place among the others
+abbrev pub LongIn : TableBuf → Long → TableBuf → Type 0
+LongIn b e c =
+    (buffer_rules c ≡ with_run (buffer_rules b) (long_letters e.run) e.weights) × (buffer_letters c ≡ buffer_letters b)
+    × (buffer_pairs c ≡ buffer_pairs b) × (buffer_longs c ≡ put_in long_rank e (buffer_longs b))
+
+-- what is written is there; or there is no memory, and nothing changes
+abbrev pub Written : (TableBuf → Type 0) → TableBuf → Result Unit AllocError → TableBuf → Type 0
+Written there b (Ok x) c = there c
+Written there b (Err x) c = SameBuffer b c
+
+-- what nothing speaks against is there; what is turned away, or finds no memory, changes nothing
+abbrev pub Added : (refusal : Option Refusal) → (TableBuf → Type 0) → TableBuf → Result Unit (Failure Refusal) → TableBuf → Type 0
+Added refusal there b (Ok x) c = (refusal ≡ None) × there c
+Added refusal there b (Err (Refused why)) c = (refusal ≡ Some why) × (c ≡ b)
+Added refusal there b (Err NoMemory) c = (refusal ≡ None) × SameBuffer b c

@@ -1,6 +1,7 @@
 -- The pairs chained, so that looking one up meets few others: those of the same bucket, from the last to the first.
 use Rattle.std.specs.Prelude.{ℕ, zero, suc, ◌+◌, ◌*◌, ◌%◌, Bool, false, cond, ◌||◌, List, map, Some, None, Option, ◌==◌}
-use Rattle.std.specs.List.{range_with_len}
+use Rattle.std.specs.List.{list_any, range_with_len}
+use Rattle.pieces.specs.declared.piece.Long.{Long}
 use Rattle.table.specs.Numbers.{first_at, second_at}
 
 -- the bucket of two letters; pairs that begin with the same letter have each a bucket of its own
@@ -32,3 +33,11 @@ begun ps (suc k) a = first_at ps k % 256 == a || begun ps k a
 -- the same of each remainder
 abbrev pub marks_of : List ℕ → (n : ℕ) → List Bool
 marks_of ps n = map (begun ps n) (range_with_len 0 256)
+
+-- one of the first n pairs or of these longer runs does
+abbrev pub begins_with : List ℕ → (n : ℕ) → List Long → (remainder : ℕ) → Bool
+begins_with ps n es a = begun ps n a || list_any (λ e. e.run.first % 256 == a) es
+
+-- the same of each remainder
+abbrev pub all_marks : List ℕ → (n : ℕ) → List Long → List Bool
+all_marks ps n es = map (begins_with ps n es) (range_with_len 0 256)

@@ -1,17 +1,19 @@
 -- What is promised of tables, in words that do not go by how they are checked. Which of several faults is told is said by
 -- `refusal_of` alone.
-use Rattle.std.specs.Prelude.{◌≡◌, ℕ, ◌+◌, ◌*◌, ◌<◌, ◌≤◌, Bool, true, false, List, [], ◌∷◌, ◌++◌, length, Some, None}
+use Rattle.std.specs.Prelude.{◌≡◌, ℕ, ◌+◌, ◌*◌, ◌<◌, ◌≤◌, Bool, true, false, List, [], ◌∷◌, ◌++◌, ◌⊎◌, length, Some, None}
 use Rattle.std.specs.List.{slice_get}
 use Rattle.table.specs.declared.fault.Refusal.TheVariants.{Foreign, Twice}
-use Rattle.table.specs.declared.piece.Letter.{Letter}
-use Rattle.table.specs.declared.piece.Pair.{Pair}
+use Rattle.pieces.specs.declared.piece.Letter.{Letter}
+use Rattle.pieces.specs.declared.piece.Long.{Long}
+use Rattle.pieces.specs.declared.piece.Pair.{Pair}
 use Rattle.table.specs.declared.view.Table.{Table}
 use Rattle.table.specs.Buffer.{pair_refusal}
-use Rattle.table.specs.Meaning.{letters_of, pairs_of, rules_of}
-use Rattle.table.specs.Numbers.{first_at, second_at, weights_at, numbers_of, pairs_in}
-use Rattle.table.specs.Refusals.{last_letter, refusal_of}
+use Rattle.table.specs.Meaning.{letters_of, longs_of, pairs_of, rules_of}
+use Rattle.table.specs.Numbers.{first_at, second_at, numbers_of, pairs_in}
+use Rattle.pieces.specs.Runs.{counts, long_letters, nothing, weights_at}
+use Rattle.table.specs.Refusals.{known_long, last_letter, refusal_of}
 use Rattle.table.specs.Entries.{is_other}
-use Rattle.table.specs.Rules.{contraction, counts, nothing, rules_in}
+use Rattle.table.specs.Rules.{contraction, rules_in}
 use Rattle.table.specs.Valley.{valley, valley_list, valley_pair, valley_pairs}
 
 -- the pairs at places j and k are of the same two letters
@@ -62,17 +64,19 @@ LettersWeigh =
     (a < 256 → (rules_in ls ps n).weighs (a ∷ []) ≡ weights_at ls (3 * a)) × (256 ≤ a → (rules_in ls ps n).weighs (a ∷ []) ≡ nothing)
 
 -- The numbers that a table holds: 768 weights; entries of other letters, each of a letter above 255 that weighs something, and
--- above those in front of it, and none where names are bytes; and five numbers for each of at most 200 pairs, of known letters,
--- none there twice.
+-- above those in front of it, and none where names are bytes; and five numbers for each pair, and longer runs, at most 200 in
+-- all, of known letters, none there twice.
 pub record Holds (t : Table) : Type 0 where
   pub whole : length t.letters.now ≡ 768
   pub others : (k : ℕ) (e : Letter) → slice_get t.others.now k ≡ Some e → is_other e ≡ true
   pub rise : (j k : ℕ) (e f : Letter) → j < k → slice_get t.others.now j ≡ Some e → slice_get t.others.now k ≡ Some f → e.letter < f.letter
   pub bytes : t.utf8 ≡ false → t.others.now ≡ []
   pub fives : length t.pairs.numbers.now ≡ 5 * t.pairs.count
-  pub few : t.pairs.count ≤ 200
+  pub few : t.pairs.count + length t.longs.now ≤ 200
   pub known : (k : ℕ) → k < t.pairs.count → KnownPair t.utf8 t.pairs.numbers.now k
   pub apart : (j k : ℕ) → j < k → k < t.pairs.count → SamePair t.pairs.numbers.now j k → ⊥
+  pub long_known : (k : ℕ) (e : Long) → slice_get t.longs.now k ≡ Some e → known_long t.utf8 e ≡ true
+  pub long_apart : (j k : ℕ) (e f : Long) → j < k → slice_get t.longs.now j ≡ Some e → slice_get t.longs.now k ≡ Some f → e.run ≡ f.run → ⊥
 
 -- whoever holds a table holds such numbers, and they are a table of bytes where names are bytes
 abbrev pub HeldAreTables : Type 0
@@ -85,12 +89,22 @@ LettersListed =
     ((k : ℕ) (e : Letter) → slice_get (letters_of t) k ≡ Some e → (rules_of t).weighs (e.letter ∷ []) ≡ e.weights)
     × ((a : ℕ) → counts ((rules_of t).weighs (a ∷ [])) ≡ true → (k : ℕ) × (e : Letter) × (slice_get (letters_of t) k ≡ Some e) × (e.letter ≡ a))
 
--- the pairs that a table lists are just those that are one together, each with what it weighs
-abbrev pub PairsListed : Type 0
-PairsListed =
-    (t : Table) →
-    ((k : ℕ) (p : Pair) → slice_get (pairs_of t) k ≡ Some p → contraction (rules_of t) (p.first ∷ (p.second ∷ [])) ≡ Some p.weights)
-    × ((run : List ℕ) → (rules_of t).joins run ≡ true → (k : ℕ) × (p : Pair) × (slice_get (pairs_of t) k ≡ Some p) × (run ≡ p.first ∷ (p.second ∷ [])))
+-- a run is that of a pair that a table lists, or of a longer run
+abbrev pub IsPairOf : Table → List ℕ → Type 0
+IsPairOf t run = (k : ℕ) × (p : Pair) × (slice_get (pairs_of t) k ≡ Some p) × (run ≡ p.first ∷ (p.second ∷ []))
+
+abbrev pub IsLongOf : Table → List ℕ → Type 0
+IsLongOf t run = (k : ℕ) × (e : Long) × (slice_get (longs_of t) k ≡ Some e) × (run ≡ long_letters e.run)
+
+-- the pairs and longer runs that a table lists are just those that are one together, each with what it weighs
+pub record RunsListed (t : Table) : Type 0 where
+  pub pairs : (k : ℕ) (p : Pair) → slice_get (pairs_of t) k ≡ Some p → contraction (rules_of t) (p.first ∷ (p.second ∷ [])) ≡ Some p.weights
+  pub longs : (k : ℕ) (e : Long) → slice_get (longs_of t) k ≡ Some e → contraction (rules_of t) (long_letters e.run) ≡ Some e.weights
+  pub no_others : (run : List ℕ) → (rules_of t).joins run ≡ true → IsPairOf t run ⊎ IsLongOf t run
+
+-- two, three or four letters are one together
+abbrev pub RunsFit : Type 0
+RunsFit = (t : Table) (run : List ℕ) → (rules_of t).joins run ≡ true → (2 ≤ length run) × (length run ≤ 4)
 
 -- the valley's numbers are a table that says its rule
 abbrev pub ValleySays : Type 0
@@ -111,6 +125,7 @@ pub record Laws : Type 0 where
   pub letters_weigh : LettersWeigh
   pub held_are_tables : HeldAreTables
   pub letters_listed : LettersListed
-  pub pairs_listed : PairsListed
+  pub runs_listed : (t : Table) → RunsListed t
+  pub runs_fit : RunsFit
   pub valley_says : ValleySays
   pub same_refusal : SameRefusal

@@ -1,12 +1,9 @@
 -- The numbers a table arrives as: three weights for each letter, and five numbers for each pair (two letters, three weights).
 use Rattle.std.specs.Prelude.{ℕ, zero, suc, ◌+◌, ◌*◌, Bool, cond, ◌&&◌, List, [], ◌∷◌, map, Some, None, Option, ◌==◌, slice_index, slice_set}
 use Rattle.std.specs.List.{range_with_len}
-use Rattle.table.specs.declared.piece.Pair.{Pair}
-use Rattle.table.specs.declared.piece.Weights.{Weights}
-
--- the weights that stand from place i on
-abbrev pub weights_at : List ℕ → ℕ → Weights
-weights_at xs i = record { primary = slice_index xs i; secondary = slice_index xs (i + 1); tertiary = slice_index xs (i + 2) }
+use Rattle.pieces.specs.declared.piece.Pair.{Pair}
+use Rattle.pieces.specs.Runs.{weights_at}
+use Rattle.pieces.specs.declared.piece.Weights.{Weights}
 
 -- the same numbers with these weights from place i on
 abbrev pub weights_set : List ℕ → ℕ → Weights → List ℕ

@@ -1,40 +1,43 @@
 -- Lent records as a table of names in UTF-8: what they say, and why they are turned away.
-use Rattle.std.specs.Prelude.{◌≡◌, ℕ, true, cond, ◌&&◌, List, [], ◌∷◌, ◌++◌, length, Some, None, Ok, Err, Option, Result, ◌==◌, nat_lt}
+use Rattle.std.specs.Prelude.{◌≡◌, ℕ, ◌+◌, ◌<◌, Bool, true, false, cond, ◌&&◌, ◌||◌, List, [], ◌∷◌, ◌++◌, length, Some, None, Ok, Err, Option, Result, ◌==◌, nat_lt}
 use Rattle.std.specs.List.{filter, list_any}
 use Rattle.std.specs.Option.{option_or}
+use Rattle.pieces.specs.declared.piece.Letter.{Letter}
+use Rattle.pieces.specs.declared.piece.Run.{Run}
+use Rattle.pieces.specs.declared.piece.Weights.{Weights}
+use Rattle.pieces.specs.Runs.{counts, nothing, same_run}
 use Rattle.table.specs.declared.buffer.TableBuf.{TableBuf}
 use Rattle.table.specs.declared.fault.Failure.{Failure}
 use Rattle.table.specs.declared.fault.Failure.TheVariants.{Refused, NoMemory}
 use Rattle.table.specs.declared.fault.Refusal.{Refusal}
-use Rattle.table.specs.declared.fault.Refusal.TheVariants.{TooMany, Foreign, Twice, TooManyLetters}
-use Rattle.table.specs.declared.piece.Letter.{Letter}
-use Rattle.table.specs.declared.piece.Pair.{Pair}
-use Rattle.table.specs.declared.piece.Weights.{Weights}
-use Rattle.table.specs.Buffer.{buffer_letters, buffer_pairs, buffer_rules, entry_refusal}
-use Rattle.table.specs.Refusals.{unknown}
-use Rattle.table.specs.Rules.{Rules, counts, nothing, same_run}
+use Rattle.table.specs.declared.fault.Refusal.TheVariants.{TooMany, Foreign, Twice, TooManyLetters, RunLength}
+use Rattle.table.specs.Buffer.{buffer_letters, buffer_rules, buffer_runs, entry_refusal}
+use Rattle.table.specs.Refusals.{unknown_run}
+use Rattle.table.specs.Rules.{Rules, with_run}
 
 -- what a letter weighs: what its entry says that weighs something
 unfoldable pub letter_told : List Letter → ℕ → Weights
 letter_told [] a = nothing
 letter_told (e ∷ es) a = cond (e.letter == a && counts e.weights) e.weights (letter_told es a)
 
--- what two letters weigh: what their record says
-unfoldable pub pair_told : List Pair → ℕ → ℕ → Weights
-pair_told [] a b = nothing
-pair_told (p ∷ ps) a b = cond (p.first == a && p.second == b) p.weights (pair_told ps a b)
+-- what a run weighs: what its record says
+unfoldable pub run_told : List Run → List ℕ → Weights
+run_told [] run = nothing
+run_told (r ∷ rs) run = cond (same_run r.letters.now run) r.weights (run_told rs run)
 
--- what a letter weighs, and two letters
-abbrev pub records_weigh : (letters : List Letter) → (pairs : List Pair) → List ℕ → Weights
-records_weigh ls ps [] = nothing
-records_weigh ls ps (a ∷ []) = letter_told ls a
-records_weigh ls ps (a ∷ (b ∷ [])) = pair_told ps a b
-records_weigh ls ps (a ∷ (b ∷ (c ∷ run))) = nothing
+-- a run is one where it is the letters of some record
+abbrev pub is_told : List Run → List ℕ → Bool
+is_told rs run = list_any (λ r. same_run r.letters.now run) rs
 
--- what records say: a run is one where it is the two letters of some pair
-abbrev pub records_rules : (letters : List Letter) → (pairs : List Pair) → Rules
-records_rules ls ps =
-    record { joins = λ run. list_any (λ p. same_run (p.first ∷ (p.second ∷ [])) run) ps; weighs = records_weigh ls ps; utf8 = true }
+-- what a letter weighs, and a run
+abbrev pub records_weigh : (letters : List Letter) → (runs : List Run) → List ℕ → Weights
+records_weigh ls rs [] = nothing
+records_weigh ls rs (a ∷ []) = letter_told ls a
+records_weigh ls rs (a ∷ (b ∷ run)) = run_told rs (a ∷ (b ∷ run))
+
+-- what records say
+abbrev pub records_rules : (letters : List Letter) → (runs : List Run) → Rules
+records_rules ls rs = record { joins = is_told rs; weighs = records_weigh ls rs; utf8 = true }
 
 -- how many entries weigh something
 abbrev pub many_weighing : List Letter → ℕ
@@ -45,38 +48,52 @@ unfoldable pub first_refusal : {A : Type 0} → (List A → A → Option Refusal
 first_refusal look front [] = None
 first_refusal look front (x ∷ xs) = option_or (look front x) (first_refusal look (front ++ x ∷ []) xs)
 
--- a pair has a letter above 65,535
-abbrev pub foreign_record : (front : List Pair) → Pair → Option Refusal
-foreign_record front p = cond (unknown true p.first p.second) (Some (Foreign (length front))) None
+-- a run has a letter above 65,535
+abbrev pub foreign_record : (front : List Run) → Run → Option Refusal
+foreign_record front r = cond (unknown_run true r.letters.now) (Some (Foreign (length front))) None
 
--- a pair equals one in front of it
-abbrev pub twice_record : (front : List Pair) → Pair → Option Refusal
-twice_record front p = cond (list_any (λ q. q.first == p.first && q.second == p.second) front) (Some (Twice (length front))) None
+-- a run equals one in front of it
+abbrev pub twice_record : (front : List Run) → Run → Option Refusal
+twice_record front r = cond (is_told front r.letters.now) (Some (Twice (length front))) None
+
+-- a run has fewer letters than two, or more than four
+abbrev pub length_record : (front : List Run) → Run → Option Refusal
+length_record front r = cond (nat_lt (length r.letters.now) 2 || nat_lt 4 (length r.letters.now)) (Some (RunLength (length front))) None
 
 -- an entry weighs something, and is no letter or one that an entry in front of it weighs
 abbrev pub letter_record : (front : List Letter) → Letter → Option Refusal
 letter_record front e = cond (counts e.weights) (entry_refusal (records_rules front []) (length front) e) None
 
--- the refusal of the pairs, the first in this order
-abbrev pub pairs_refusal : List Pair → Option Refusal
-pairs_refusal ps =
-    cond (nat_lt 200 (length ps)) (Some TooMany)
-    (option_or (first_refusal foreign_record [] ps) (first_refusal twice_record [] ps))
+-- the refusal of the runs, the first in this order
+abbrev pub runs_refusal : List Run → Option Refusal
+runs_refusal rs =
+    cond (nat_lt 200 (length rs)) (Some TooMany)
+    (option_or (first_refusal foreign_record [] rs) (first_refusal twice_record [] rs))
 
 -- the refusal of the letters, the first in this order
 abbrev pub letters_refusal : List Letter → Option Refusal
 letters_refusal ls = cond (nat_lt 2000 (many_weighing ls)) (Some TooManyLetters) (first_refusal letter_record [] ls)
 
 -- the refusal of the records; None where they are a table
-abbrev pub records_refusal : (letters : List Letter) → (pairs : List Pair) → Option Refusal
-records_refusal ls ps = option_or (pairs_refusal ps) (letters_refusal ls)
+abbrev pub records_refusal : (letters : List Letter) → (runs : List Run) → Option Refusal
+records_refusal ls rs = option_or (runs_refusal rs) (option_or (letters_refusal ls) (first_refusal length_record [] rs))
 
 -- the table says what the records say
-abbrev pub Says : (letters : List Letter) → (pairs : List Pair) → TableBuf → Type 0
-Says ls ps b = (buffer_rules b ≡ records_rules ls ps) × (buffer_letters b ≡ many_weighing ls) × (buffer_pairs b ≡ ps)
+abbrev pub Says : (letters : List Letter) → (runs : List Run) → TableBuf → Type 0
+Says ls rs b = (buffer_rules b ≡ records_rules ls rs) × (buffer_letters b ≡ many_weighing ls) × (buffer_runs b ≡ length rs)
+
+-- one run more is free to be written: there is room for it, its letters are known, and they are not one yet
+pub record IsFree (t : Rules) (many : ℕ) (run : List ℕ) : Type 0 where
+  pub room : many < 200
+  pub known : unknown_run t.utf8 run ≡ false
+  pub apart : t.joins run ≡ false
+
+-- a run is there
+abbrev pub RunIn : TableBuf → Run → TableBuf → Type 0
+RunIn b r c = (buffer_rules c ≡ with_run (buffer_rules b) r.letters.now r.weights) × (buffer_letters c ≡ buffer_letters b) × (buffer_runs c ≡ buffer_runs b + 1)
 
 -- records are a table, which says what they say; or they are turned away, or there is no memory for it
-abbrev pub MadeOf : (letters : List Letter) → (pairs : List Pair) → Result TableBuf (Failure Refusal) → Type 0
-MadeOf ls ps (Ok b) = (records_refusal ls ps ≡ None) × Says ls ps b
-MadeOf ls ps (Err (Refused why)) = records_refusal ls ps ≡ Some why
-MadeOf ls ps (Err NoMemory) = records_refusal ls ps ≡ None
+abbrev pub MadeOf : (letters : List Letter) → (runs : List Run) → Result TableBuf (Failure Refusal) → Type 0
+MadeOf ls rs (Ok b) = (records_refusal ls rs ≡ None) × Says ls rs b
+MadeOf ls rs (Err (Refused why)) = records_refusal ls rs ≡ Some why
+MadeOf ls rs (Err NoMemory) = records_refusal ls rs ≡ None

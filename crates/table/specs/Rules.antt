@@ -1,9 +1,12 @@
 -- What a table says, whatever numbers it lies in.
-use Rattle.std.specs.Prelude.{◌≡◌, ℕ, ◌+◌, ◌*◌, Bool, true, false, cond, not, ◌&&◌, ◌||◌, List, [], ◌∷◌, is_some, Some, None, Option, ◌==◌, nat_lt}
-use Rattle.table.specs.declared.piece.Letter.{Letter}
-use Rattle.table.specs.declared.piece.Weights.{Weights}
-use Rattle.table.specs.declared.piece.Pair.{Pair}
-use Rattle.table.specs.Numbers.{weights_at, place_in}
+use Rattle.std.specs.Prelude.{◌≡◌, ℕ, ◌+◌, ◌*◌, Bool, true, false, cond, ◌||◌, List, [], ◌∷◌, is_some, Some, None, Option, ◌==◌, nat_lt}
+use Rattle.std.specs.Option.{unwrap_or}
+use Rattle.pieces.specs.declared.piece.Letter.{Letter}
+use Rattle.pieces.specs.declared.piece.Long.{Long}
+use Rattle.pieces.specs.declared.piece.Weights.{Weights}
+use Rattle.pieces.specs.declared.piece.Pair.{Pair}
+use Rattle.table.specs.Numbers.{place_in}
+use Rattle.pieces.specs.Runs.{long_among, nothing, same_run, weights_at}
 
 -- Which runs of letters are one together (contractions), and what a piece weighs: a letter alone, or such a run. What is
 -- neither weighs nothing. And how bytes are letters: as UTF-8 has them, or each byte is one.
@@ -12,33 +15,34 @@ pub record Rules : Type 0 where
   pub weighs : List ℕ → Weights
   pub utf8 : Bool
 
--- ignorable on every level
-abbrev pub nothing : Weights
-nothing = record { primary = 0; secondary = 0; tertiary = 0 }
-
--- it weighs something on some level
-abbrev pub counts : Weights → Bool
-counts w = not (w.primary == 0 && (w.secondary == 0 && w.tertiary == 0))
-
--- the same letters
-abbrev pub same_run : List ℕ → List ℕ → Bool
-same_run [] [] = true
-same_run [] (b ∷ ys) = false
-same_run (a ∷ xs) [] = false
-same_run (a ∷ xs) (b ∷ ys) = a == b && same_run xs ys
-
 -- a table with the weights of one letter set
 abbrev pub with_letter : Rules → ℕ → Weights → Rules
 with_letter t a w = record { joins = t.joins; weighs = λ run. cond (same_run (a ∷ []) run) w (t.weighs run); utf8 = t.utf8 }
 
--- a table with one pair more
-abbrev pub with_pair : Rules → Pair → Rules
-with_pair t p =
+-- a table with one run more
+abbrev pub with_run : Rules → List ℕ → Weights → Rules
+with_run t letters w =
     record {
-      joins = λ run. same_run (p.first ∷ (p.second ∷ [])) run || t.joins run;
-      weighs = λ run. cond (same_run (p.first ∷ (p.second ∷ [])) run) p.weights (t.weighs run);
+      joins = λ run. same_run letters run || t.joins run;
+      weighs = λ run. cond (same_run letters run) w (t.weighs run);
       utf8 = t.utf8;
     }
+
+-- a table with one pair more
+abbrev pub with_pair : Rules → Pair → Rules
+with_pair t p = with_run t (p.first ∷ (p.second ∷ [])) p.weights
+
+-- longer runs are one beside those that are
+unfoldable pub longs_join : List Long → (joins : List ℕ → Bool) → List ℕ → Bool
+longs_join es joins run = is_some (long_among es run) || joins run
+
+-- and weigh what they say
+unfoldable pub longs_weigh : List Long → (weighs : List ℕ → Weights) → List ℕ → Weights
+longs_weigh es weighs run = unwrap_or (long_among es run) (weighs run)
+
+-- a table with longer runs beside its letters and pairs
+abbrev pub with_longs : Rules → List Long → Rules
+with_longs t es = record { joins = longs_join es t.joins; weighs = longs_weigh es t.weighs; utf8 = t.utf8 }
 
 -- the same table, of names in UTF-8
 abbrev pub in_utf8 : Rules → Rules
@@ -48,16 +52,16 @@ in_utf8 t = record { joins = t.joins; weighs = t.weighs; utf8 = true }
 abbrev pub contraction : Rules → List ℕ → Option Weights
 contraction t run = cond (t.joins run) (Some (t.weighs run)) None
 
--- the letter is one with no other behind it
+-- no run that is one together begins with the letter
 abbrev pub BeginsNone : Rules → ℕ → Type 0
-BeginsNone t a = (b : ℕ) → contraction t (a ∷ (b ∷ [])) ≡ None
+BeginsNone t a = (run : List ℕ) → t.joins (a ∷ run) ≡ false
 
 -- the weights of the pair at a place, if there is one
 abbrev pub weights_of : List ℕ → Option ℕ → Weights
 weights_of ps None = nothing
 weights_of ps (Some k) = weights_at ps (5 * k + 2)
 
--- only runs of two are one together
+-- runs of two, of which the first n pairs are one together
 unfoldable pub joins_in : List ℕ → (n : ℕ) → List ℕ → Bool
 joins_in ps n [] = false
 joins_in ps n (a ∷ []) = false

@@ -2,9 +2,10 @@
 use Rattle.std.specs.Prelude.{ℕ, ◌-◌, ◌*◌, ◌/◌, ◌%◌, cond, false, List, [], ◌∷◌, map, ◌==◌, nat_lt}
 use Rattle.std.specs.List.{range_with_len}
 use Rattle.std.specs.Int.{is_in_range}
-use Rattle.table.specs.declared.piece.Pair.{Pair}
-use Rattle.table.specs.declared.piece.Weights.{Weights}
-use Rattle.table.specs.Rules.{Rules, nothing, same_run}
+use Rattle.pieces.specs.declared.piece.Pair.{Pair}
+use Rattle.pieces.specs.declared.piece.Weights.{Weights}
+use Rattle.table.specs.Rules.{Rules}
+use Rattle.pieces.specs.Runs.{nothing, same_run}
 
 -- weights, level after level
 abbrev pub weigh : ℕ → ℕ → ℕ → Weights

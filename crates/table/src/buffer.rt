@@ -1,10 +1,12 @@
 // A table that owns its numbers and is filled step by step.
-ghost use Rattle.std.specs.Prelude.{◌≡◌, ◌*◌, ◌/◌, ◌≤◌, [], None, false, length, true};
+ghost use Rattle.std.specs.Prelude.{◌≡◌, ◌+◌, ◌*◌, ◌/◌, ◌≤◌, [], None, false, length, true};
+ghost use Rattle.pieces.specs.Ranks.{rises};
+ghost use Rattle.pieces.specs.Runs.{long_rank, none_twice};
 ghost use Rattle.std.specs.List.{list_all};
 ghost use Rattle.table.specs.Entries.{ascends, is_other};
-ghost use Rattle.table.specs.Refusals.{first_place, foreign, repeated};
+ghost use Rattle.table.specs.Refusals.{first_place, foreign, known_long, repeated};
 
-use crate::piece::Letter;
+use pieces::{Letter, Long};
 
 mod copy;
 mod fill;
@@ -19,12 +21,17 @@ pub struct TableBuf {
     others: Vec<Letter>,
     // Five numbers for each pair.
     pairs: Vec<u16>,
+    // Runs of three and four letters, in the order of their ranks.
+    longs: Vec<Long>,
     utf8: bool,
     ghost whole: { length letters.items ≡ 768 },
     ghost fives: { length pairs.items ≡ 5 * (length pairs.items / 5) },
-    ghost few: { length pairs.items / 5 ≤ 200 },
+    ghost few: { length pairs.items / 5 + length longs.items ≤ 200 },
     ghost known: { first_place (foreign utf8 pairs.items) (length pairs.items / 5) ≡ None },
     ghost apart: { first_place (repeated pairs.items) (length pairs.items / 5) ≡ None },
+    ghost rise: { rises long_rank longs.items ≡ true },
+    ghost long_apart: { none_twice longs.items ≡ true },
+    ghost long_known: { list_all (known_long utf8) longs.items ≡ true },
     ghost ascends: { ascends others.items ≡ true },
     ghost others_weigh: { list_all is_other others.items ≡ true },
     ghost bytes: { utf8 ≡ false → others.items ≡ [] },

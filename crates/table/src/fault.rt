@@ -12,11 +12,11 @@ pub enum Refusal {
     Letters,
     // The pairs aren't five numbers each.
     Shape,
-    // There are more than 200 pairs.
+    // There are more than 200 runs, pairs and longer ones.
     TooMany,
-    // The first pair with a letter above 255, or of a table of names in UTF-8 above 65,535: its place.
+    // The first run with a letter above 255, or of a table of names in UTF-8 above 65,535: its place.
     Foreign(usize),
-    // The first pair that equals an earlier one: its place.
+    // The first run that equals an earlier one: its place.
     Twice(usize),
     // There are more than 2,000 letters that weigh something.
     TooManyLetters,
@@ -24,11 +24,13 @@ pub enum Refusal {
     NoLetter(usize),
     // A letter that weighs something already: the place of the entry.
     LetterTwice(usize),
+    // The first run that has fewer letters than two or more than four: its place.
+    RunLength(usize),
 }
 
 impl Refusal {
-    // The number that is reported: 4 for a fault of letters, and 1 for every other. Messages and `make_key` say it as a
-    // number.
+    // The number that is reported: 4 for a fault of letters, 6 for a run that is too short or too long, and 1 for every other.
+    // Messages and `make_key` say it as a number.
     pub fn number(self) -> u64
         ensures { result ≡ refusal_number self }
     {
@@ -39,10 +41,11 @@ impl Refusal {
             | Refusal::Foreign(_)
             | Refusal::Twice(_) => 1,
             Refusal::TooManyLetters | Refusal::NoLetter(_) | Refusal::LetterTwice(_) => 4,
+            Refusal::RunLength(_) => 6,
         }
     }
 
-    // The pair or the entry at fault, counted from 0; of too many letters how many there may be; else 0, and not `None`,
+    // The run or the entry at fault, counted from 0; of too many letters how many there may be; else 0, and not `None`,
     // since what is reported always has a place.
     pub fn place(self) -> usize
         ensures { result ≡ refusal_place self }
@@ -53,7 +56,8 @@ impl Refusal {
             Refusal::Foreign(k)
             | Refusal::Twice(k)
             | Refusal::NoLetter(k)
-            | Refusal::LetterTwice(k) => k,
+            | Refusal::LetterTwice(k)
+            | Refusal::RunLength(k) => k,
         }
     }
 }
@@ -65,7 +69,7 @@ pub enum Failure<R> {
     NoMemory,
 }
 
-// Why a pair was not added; nothing has changed then.
+// Why a letter or a run was not added; nothing has changed then.
 pub type AddError = Failure<Refusal>;
 
 impl<R> From<AllocError> for Failure<R> {

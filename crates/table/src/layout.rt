@@ -1,23 +1,10 @@
 // How weights and pairs lie in the numbers of a table.
 ghost use Rattle.std.specs.Prelude.{◌≡◌, ◌+◌, ◌*◌, ◌<◌, length, vec_len};
-ghost use Rattle.table.specs.Numbers.{numbers_of, pair_at, weights_at, weights_set};
-ghost use Rattle.table.specs.Refusals.{last_letter, unknown};
+ghost use Rattle.table.specs.Numbers.{numbers_of, pair_at, weights_set};
+ghost use Rattle.pieces.specs.Runs.{long_letters, weights_at};
+ghost use Rattle.table.specs.Refusals.{last_letter, unknown, unknown_run};
 
-use crate::piece::{Pair, Weights};
-
-// A weight for each level, in their order.
-impl From<[u16; 3]> for Weights {
-    ghost from_gives = { λ numbers r. r ≡ weights_at numbers 0 };
-
-    fn from(numbers: [u16; 3]) -> Weights {
-        let [primary, secondary, tertiary] = numbers;
-        Weights {
-            primary,
-            secondary,
-            tertiary,
-        }
-    }
-}
+use pieces::{LongRun, Pair, Weights};
 
 // The three weights that stand from `at` on.
 pub(crate) fn weights_at(numbers: &[u16], at: usize) -> Weights
@@ -75,7 +62,18 @@ pub(crate) fn unknown(utf8: bool, first: u32, second: u32) -> bool
     first > last || second > last
 }
 
-// The last letter that a pair may have.
+// The same of the letters of a longer run.
+pub(crate) fn unknown_long(utf8: bool, run: LongRun) -> bool
+    ensures { result ≡ unknown_run utf8 (long_letters run) }
+{
+    let last = last_letter(utf8);
+    run.first > last
+        || run.second > last
+        || run.third > last
+        || run.fourth.is_some_and(|fourth| fourth > last)
+}
+
+// The last letter that a run may have.
 fn last_letter(utf8: bool) -> u32
     ensures { result ≡ last_letter utf8 }
 {

@@ -1,10 +1,10 @@
 // The entries of letters above 255, in the order of their letters.
-ghost use Rattle.std.specs.Prelude.{◌≡◌, ◌≤◌, length, true};
-ghost use Rattle.table.specs.Entries.{ascends, below};
+ghost use Rattle.std.specs.Prelude.{◌≡◌, length, true};
+ghost use Rattle.table.specs.Entries.{ascends};
 ghost use Rattle.table.specs.Rules.{letter_weighs, weights_among};
 
 use crate::layout::weights_at;
-use crate::piece::{Letter, Weights};
+use pieces::{Letter, Weights, place_for};
 
 // What a letter weighs, by the weights of letters below 256 and the entries of others.
 pub(crate) fn letter_weights(letters: &[u16], others: &[Letter], letter: u32) -> Weights
@@ -24,28 +24,8 @@ fn weights_among(others: &[Letter], letter: u32) -> Weights
     requires { ascends others.now ≡ true }
     ensures { result ≡ weights_among others.now letter }
 {
-    match others.get(place_for(others, letter)) {
+    match others.get(place_for(others, letter as u64)) {
         Some(other) if other.letter == letter => other.weights,
         _ => Weights::from([0, 0, 0]),
     }
-}
-
-// How many entries are of letters below this one, and so where its own stands, or would stand. What is left is halved with
-// each look.
-pub(crate) fn place_for(others: &[Letter], letter: u32) -> usize
-    requires { ascends others.now ≡ true }
-    ensures place { result ≡ below others.now letter }
-    ensures within { result ≤ length others.now }
-{
-    let mut low = 0;
-    let mut high = others.len();
-    while low < high {
-        let middle = low + (high - low) / 2;
-        if others[middle].letter < letter {
-            low = middle + 1;
-        } else {
-            high = middle;
-        }
-    }
-    low
 }

@@ -1,6 +1,6 @@
 // The valley's own table: 768 weights and one pair.
-ghost use Rattle.std.specs.Prelude.{◌≡◌};
-ghost use Rattle.table.specs.Meaning.{pairs_of, rules_of};
+ghost use Rattle.std.specs.Prelude.{◌≡◌, []};
+ghost use Rattle.table.specs.Meaning.{longs_of, pairs_of, rules_of};
 ghost use Rattle.table.specs.Valley.{valley, valley_list, valley_pair, valley_pairs};
 
 use crate::view::Table;
@@ -288,6 +288,7 @@ impl Table<'_> {
     pub fn valley() -> Table<'static>
         ensures rules { rules_of result ≡ valley }
         ensures pairs { pairs_of result ≡ valley_pairs }
+        ensures longs { longs_of result ≡ [] }
     {
         Table::check(valley_letters(), valley_pairs(), 1).unwrap()
     }

@@ -1,6 +1,6 @@
 // What several tests have in common.
 use std::process::Abort;
-use table::{AddError, Letter, Pair, Refusal, Table, TableBuf, Weights};
+use table::{AddError, Letter, Long, LongRun, Pair, Refusal, Run, Table, TableBuf, Weights};
 
 pub(crate) const ONE: Weights = Weights {
     primary: 1,
@@ -38,6 +38,28 @@ pub(crate) fn hold_places(rt: &impl Abort, table: &Table, cases: &[(usize, Optio
     }
 }
 
+pub(crate) fn hold_longs(rt: &impl Abort, table: &Table, cases: &[(LongRun, Option<Weights>)]) {
+    for (run, weights) in cases {
+        assert_eq!(rt; table.long(*run), *weights);
+    }
+}
+
+// The longer runs of a table are these, in their order, and no others.
+pub(crate) fn hold_long_places(rt: &impl Abort, table: &Table, longs: &[Long]) {
+    assert_eq!(rt; table.long_count(), longs.len());
+    for (place, long) in longs.iter().enumerate() {
+        assert_eq!(rt; table.long_at(place), Some(*long));
+    }
+    assert_eq!(rt; table.long_at(longs.len()), None);
+    assert_eq!(rt; table.long_at(18446744073709551615), None);
+}
+
+pub(crate) fn hold_begins(rt: &impl Abort, table: &Table, cases: &[(u32, bool)]) {
+    for (letter, may) in cases {
+        assert_eq!(rt; table.may_begin(*letter), *may);
+    }
+}
+
 pub(crate) fn entry(letter: u32, weights: Weights) -> Letter {
     Letter { letter, weights }
 }
@@ -48,6 +70,32 @@ pub(crate) fn pair(first: u32, second: u32, weights: Weights) -> Pair {
         second,
         weights,
     }
+}
+
+pub(crate) fn three(first: u32, second: u32, third: u32) -> LongRun {
+    LongRun {
+        first,
+        second,
+        third,
+        fourth: None,
+    }
+}
+
+pub(crate) fn four(first: u32, second: u32, third: u32, fourth: u32) -> LongRun {
+    LongRun {
+        first,
+        second,
+        third,
+        fourth: Some(fourth),
+    }
+}
+
+pub(crate) fn long(run: LongRun, weights: Weights) -> Long {
+    Long { run, weights }
+}
+
+pub(crate) fn run(letters: &[u32], weights: Weights) -> Run<'_> {
+    Run { letters, weights }
 }
 
 // A letter that is added, or why it isn't.
@@ -85,4 +133,12 @@ pub(crate) fn add_pair(
 ) {
     assert_eq!(rt; table.allows(pair(first, second, weights)).err(), why);
     assert_eq!(rt; table.add_pair(pair(first, second, weights)), answer(why));
+}
+
+// Adds longer runs one after the other, and holds each answer to what it should be.
+pub(crate) fn add_longs(rt: &impl Abort, table: &mut TableBuf, cases: &[(Long, Option<Refusal>)]) {
+    for (long, why) in cases {
+        assert_eq!(rt; table.allows_long(*long).err(), *why);
+        assert_eq!(rt; table.add_long(*long), answer(*why));
+    }
 }

@@ -1,10 +1,12 @@
-// Tables of weights on examples: every refusal with its place, lookups, filling, and tables made from records.
+// Tables of weights on examples: every refusal with its place, lookups, filling, longer runs, and tables made from records.
 #![tactic(auto)]
 
 #[cfg(test)]
 mod fill;
 #[cfg(test)]
 mod hold;
+#[cfg(test)]
+mod longs;
 #[cfg(test)]
 mod look;
 #[cfg(test)]

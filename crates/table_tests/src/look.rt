@@ -1,5 +1,5 @@
 // What letters and pairs weigh.
-use crate::hold::{hold_letters, hold_pairs, hold_places};
+use crate::hold::{hold_begins, hold_letters, hold_long_places, hold_pairs, hold_places};
 use std::test::Fail;
 use table::{Pair, Table, Weights};
 
@@ -48,6 +48,7 @@ fn valley(rt: HostRuntime) {
         ],
     );
     assert_eq!(rt; valley.pair_count(), 1);
+    hold_long_places(&rt, &valley, &[]);
 }
 
 // The first letter and the last, with another weight on each level.
@@ -146,4 +147,6 @@ fn blank(rt: HostRuntime) {
     );
     hold_pairs(&rt, &table, &[(1, 2, None)]);
     hold_places(&rt, &table, &[(0, None)]);
+    hold_long_places(&rt, &table, &[]);
+    hold_begins(&rt, &table, &[(0, false), (1, false), (255, false)]);
 }

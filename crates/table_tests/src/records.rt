@@ -1,19 +1,22 @@
 // Tables of names in UTF-8 made from lent records.
-use crate::hold::{NONE, ONE, TWO, entry, hold_letters, hold_pairs, hold_places, pair};
+use crate::hold::{
+    NONE, ONE, TWO, entry, four, hold_begins, hold_letters, hold_long_places, hold_longs,
+    hold_pairs, hold_places, long, pair, run, three,
+};
 use std::alloc::{AllocError, Global};
 use std::process::Abort;
 use std::test::Fail;
-use table::{AddError, Letter, Pair, Refusal, TableBuf, Weights};
+use table::{AddError, Letter, Refusal, Run, TableBuf, Weights};
 
-fn failure(heap: Global, letters: &[Letter], pairs: &[Pair]) -> Option<AddError> {
-    TableBuf::of(letters, pairs, heap).err()
+fn failure(heap: Global, letters: &[Letter], runs: &[Run]) -> Option<AddError> {
+    TableBuf::of(letters, runs, heap).err()
 }
 
 // Records, and why they are turned away.
 #[derive(Clone, Copy)]
 struct Case(
     &'static [(u32, u16)],
-    &'static [(u32, u32)],
+    &'static [&'static [u32]],
     Option<Refusal>,
 );
 
@@ -25,25 +28,25 @@ fn letters_of(heap: Global, entries: &[(u32, u16)]) -> Result<Vec<Letter>, Alloc
     Ok(letters)
 }
 
-fn pairs_of(heap: Global, runs: &[(u32, u32)]) -> Result<Vec<Pair>, AllocError> {
-    let mut pairs = Vec::new(heap);
-    for (first, second) in runs {
-        pairs.push(pair(*first, *second, ONE))?;
+fn runs_of(heap: Global, all: &[&'static [u32]]) -> Result<Vec<Run<'static>>, AllocError> {
+    let mut runs = Vec::new(heap);
+    for letters in all {
+        runs.push(run(*letters, ONE))?;
     }
-    Ok(pairs)
+    Ok(runs)
 }
 
 fn hold(rt: &impl Abort, heap: Global, cases: &[Case]) -> Result<(), AllocError> {
     for case in cases {
         let letters = letters_of(heap, case.0)?;
-        let pairs = pairs_of(heap, case.1)?;
-        let why = failure(heap, letters.as_slice(), pairs.as_slice());
+        let runs = runs_of(heap, case.1)?;
+        let why = failure(heap, letters.as_slice(), runs.as_slice());
         assert_eq!(rt; why, case.2.map(AddError::Refused));
     }
     Ok(())
 }
 
-// Letters in any order, among them some that weigh nothing, and pairs.
+// Letters in any order, among them some that weigh nothing, and runs of two, three and four letters.
 #[test]
 fn taken(rt: HostRuntime) -> Result<(), Fail> {
     let table = TableBuf::of(
@@ -59,9 +62,12 @@ fn taken(rt: HostRuntime) -> Result<(), Fail> {
             entry(300, Weights::from([0, 0, 9])),
         ],
         &[
-            pair(256, 65535, ONE),
-            pair(0, 1000, TWO),
-            pair(1000, 0, ONE),
+            run(&[256, 65535], ONE),
+            run(&[256, 65535, 0], TWO),
+            run(&[0, 1000], TWO),
+            run(&[256, 65535, 0, 7], ONE),
+            run(&[1000, 0], ONE),
+            run(&[3, 3, 3], ONE),
         ],
         rt.alloc(),
     )?;
@@ -93,6 +99,19 @@ fn taken(rt: HostRuntime) -> Result<(), Fail> {
             (1000, 0, Some(ONE)),
             (0, 255, None),
             (0, 232, None),
+            (3, 3, None),
+        ],
+    );
+    hold_longs(
+        &rt,
+        &table,
+        &[
+            (three(256, 65535, 0), Some(TWO)),
+            (four(256, 65535, 0, 7), Some(ONE)),
+            (three(3, 3, 3), Some(ONE)),
+            (three(0, 65535, 0), None),
+            (four(3, 3, 3, 3), None),
+            (four(256, 65535, 0, 0), None),
         ],
     );
     hold_places(
@@ -103,6 +122,27 @@ fn taken(rt: HostRuntime) -> Result<(), Fail> {
             (1, Some(pair(0, 1000, TWO))),
             (2, Some(pair(1000, 0, ONE))),
             (3, None),
+        ],
+    );
+    hold_long_places(
+        &rt,
+        &table,
+        &[
+            long(three(3, 3, 3), ONE),
+            long(four(256, 65535, 0, 7), ONE),
+            long(three(256, 65535, 0), TWO),
+        ],
+    );
+    hold_begins(
+        &rt,
+        &table,
+        &[
+            (256, true),
+            (0, true),
+            (1000, true),
+            (3, true),
+            (65535, false),
+            (7, false),
         ],
     );
     assert_eq!(rt; table.pair_count(), 3);
@@ -117,6 +157,7 @@ fn none(rt: HostRuntime) -> Result<(), Fail> {
     assert!(rt; table.table().utf8());
     assert_eq!(rt; table.letter_count(), 0);
     assert_eq!(rt; table.table().pair_count(), 0);
+    assert_eq!(rt; table.table().long_count(), 0);
     hold_letters(&rt, &table.table(), &[(0, NONE), (300, NONE)]);
     Ok(())
 }
@@ -180,40 +221,74 @@ fn letters(rt: HostRuntime) -> Result<(), Fail> {
     Ok(())
 }
 
-// All pairs are looked through for foreign letters before any is compared.
+// All runs are looked through for foreign letters before any is compared.
 #[test]
-fn pairs(rt: HostRuntime) -> Result<(), Fail> {
+fn runs(rt: HostRuntime) -> Result<(), Fail> {
     hold(
         &rt,
         rt.alloc(),
         &[
-            Case(&[], &[(65535, 65535), (0, 65535), (55296, 0)], None),
-            Case(&[], &[(65536, 0)], Some(Refusal::Foreign(0))),
-            Case(&[], &[(0, 65536)], Some(Refusal::Foreign(0))),
+            Case(&[], &[&[65535, 65535], &[0, 65535], &[55296, 0]], None),
             Case(
                 &[],
-                &[(1, 2), (4294967295, 0), (65536, 0)],
+                &[&[65535, 65535, 65535], &[65535, 65535, 65535, 65535]],
+                None,
+            ),
+            Case(&[], &[&[65536, 0]], Some(Refusal::Foreign(0))),
+            Case(&[], &[&[0, 65536]], Some(Refusal::Foreign(0))),
+            Case(&[], &[&[0, 0, 65536]], Some(Refusal::Foreign(0))),
+            Case(
+                &[],
+                &[&[0, 0], &[0, 0, 0, 65536]],
                 Some(Refusal::Foreign(1)),
             ),
             Case(
                 &[],
-                &[(1, 2), (1, 2), (65536, 0)],
+                &[&[1, 2], &[4294967295, 0], &[65536, 0]],
+                Some(Refusal::Foreign(1)),
+            ),
+            Case(
+                &[],
+                &[&[1, 2], &[1, 2], &[65536, 0]],
                 Some(Refusal::Foreign(2)),
             ),
             Case(
                 &[],
-                &[(1, 2), (2, 1), (1, 1), (2, 2), (257, 2), (1, 258)],
+                &[&[1, 2], &[2, 1], &[1, 1], &[2, 2], &[257, 2], &[1, 258]],
                 None,
             ),
-            Case(&[], &[(1, 2), (2, 1), (1, 2)], Some(Refusal::Twice(2))),
             Case(
                 &[],
-                &[(7, 7), (8, 8), (8, 8), (7, 7)],
+                &[
+                    &[1, 2],
+                    &[1, 2, 3],
+                    &[1, 2, 3, 4],
+                    &[1, 2, 259],
+                    &[1, 2, 3, 260],
+                    &[2, 3],
+                    &[2, 3, 4],
+                ],
+                None,
+            ),
+            Case(&[], &[&[1, 2], &[2, 1], &[1, 2]], Some(Refusal::Twice(2))),
+            Case(
+                &[],
+                &[&[1, 2, 3], &[1, 2], &[1, 2, 3]],
                 Some(Refusal::Twice(2)),
             ),
             Case(
                 &[],
-                &[(300, 400), (300, 401), (300, 400)],
+                &[&[1, 2, 3, 4], &[1, 2, 3], &[1, 2], &[1, 2, 3, 4], &[1, 2]],
+                Some(Refusal::Twice(3)),
+            ),
+            Case(
+                &[],
+                &[&[7, 7], &[8, 8], &[8, 8], &[7, 7]],
+                Some(Refusal::Twice(2)),
+            ),
+            Case(
+                &[],
+                &[&[300, 400], &[300, 401], &[300, 400]],
                 Some(Refusal::Twice(2)),
             ),
         ],
@@ -221,7 +296,38 @@ fn pairs(rt: HostRuntime) -> Result<(), Fail> {
     Ok(())
 }
 
-// Pairs are looked at before letters.
+// Runs of fewer letters than two, or of more than four.
+#[test]
+fn lengths(rt: HostRuntime) -> Result<(), Fail> {
+    hold(
+        &rt,
+        rt.alloc(),
+        &[
+            Case(&[], &[&[]], Some(Refusal::RunLength(0))),
+            Case(&[], &[&[1]], Some(Refusal::RunLength(0))),
+            Case(&[], &[&[1, 2, 3, 4, 5]], Some(Refusal::RunLength(0))),
+            Case(&[], &[&[1, 2], &[1]], Some(Refusal::RunLength(1))),
+            Case(
+                &[],
+                &[&[1, 2, 3, 4], &[1, 2, 3, 4, 5]],
+                Some(Refusal::RunLength(1)),
+            ),
+            Case(
+                &[],
+                &[&[1, 2], &[1, 2, 3], &[], &[1], &[1, 2, 3, 4, 5]],
+                Some(Refusal::RunLength(2)),
+            ),
+            Case(
+                &[(7, 1), (300, 1)],
+                &[&[1, 2], &[1, 2, 3], &[1]],
+                Some(Refusal::RunLength(2)),
+            ),
+        ],
+    )?;
+    Ok(())
+}
+
+// Faults of runs come before those of letters, but for how many letters a run has, which comes last.
 #[test]
 fn both(rt: HostRuntime) -> Result<(), Fail> {
     hold(
@@ -230,18 +336,46 @@ fn both(rt: HostRuntime) -> Result<(), Fail> {
         &[
             Case(
                 &[(55296, 1)],
-                &[(1, 2), (65536, 0)],
+                &[&[1, 2], &[65536, 0]],
                 Some(Refusal::Foreign(1)),
             ),
             Case(
                 &[(7, 1), (7, 1)],
-                &[(1, 2), (1, 2)],
+                &[&[1, 2], &[1, 2]],
                 Some(Refusal::Twice(1)),
             ),
             Case(
                 &[(7, 1), (7, 1)],
-                &[(1, 2), (2, 1)],
+                &[&[1, 2], &[2, 1]],
                 Some(Refusal::LetterTwice(1)),
+            ),
+            Case(
+                &[(7, 1), (7, 1)],
+                &[&[1], &[]],
+                Some(Refusal::LetterTwice(1)),
+            ),
+            Case(
+                &[(7, 1), (55296, 1)],
+                &[&[1, 2, 3, 4, 5]],
+                Some(Refusal::NoLetter(1)),
+            ),
+            Case(
+                &[(7, 1)],
+                &[&[1], &[1, 2], &[1, 2]],
+                Some(Refusal::Twice(2)),
+            ),
+            Case(&[], &[&[], &[]], Some(Refusal::Twice(1))),
+            Case(&[], &[&[1], &[2], &[1]], Some(Refusal::Twice(2))),
+            Case(
+                &[],
+                &[&[1, 2, 3, 4, 5], &[1, 2, 3, 4, 6], &[1, 2, 3, 4, 5]],
+                Some(Refusal::Twice(2)),
+            ),
+            Case(&[], &[&[1], &[65536]], Some(Refusal::Foreign(1))),
+            Case(
+                &[(55296, 1)],
+                &[&[1, 2, 3, 4, 65536]],
+                Some(Refusal::Foreign(0)),
             ),
         ],
     )?;
@@ -258,13 +392,33 @@ fn many_letters(heap: Global, many: u32, first: u32) -> Result<Vec<Letter>, Allo
     Ok(letters)
 }
 
-// So many pairs.
-fn many_pairs(heap: Global, many: u32) -> Result<Vec<Pair>, AllocError> {
-    let mut pairs = Vec::new(heap);
+// The letters of so many pairs, and of so many runs of four, one behind the other.
+fn letters_of_pairs(heap: Global, many: u32) -> Result<Vec<u32>, AllocError> {
+    let mut letters = Vec::new(heap);
     for k in 0..many {
-        pairs.push(pair(k, 9, ONE))?;
+        letters.extend_from_slice(&[k, 9])?;
     }
-    Ok(pairs)
+    Ok(letters)
+}
+
+fn letters_of_fours(heap: Global, many: u32) -> Result<Vec<u32>, AllocError> {
+    let mut letters = Vec::new(heap);
+    for k in 0..many {
+        letters.extend_from_slice(&[9, k, 9, 9])?;
+    }
+    Ok(letters)
+}
+
+// Lent letters as pairs, and behind them as runs of four.
+fn lend<'a>(heap: Global, pairs: &'a [u32], fours: &'a [u32]) -> Result<Vec<Run<'a>>, AllocError> {
+    let mut runs = Vec::new(heap);
+    for letters in pairs.chunks_exact(2) {
+        runs.push(run(letters, ONE))?;
+    }
+    for letters in fours.chunks_exact(4) {
+        runs.push(run(letters, TWO))?;
+    }
+    Ok(runs)
 }
 
 // 2,000 letters that weigh something are taken, 2,001 are not, whatever else is wrong with them.
@@ -307,38 +461,72 @@ fn most_letters(rt: HostRuntime) -> Result<(), Fail> {
     Ok(())
 }
 
-// 200 pairs are taken, 201 are not, whatever else is wrong with them or with the letters.
+// 200 runs are taken, pairs and longer ones together.
 #[test]
-fn most_pairs(rt: HostRuntime) -> Result<(), Fail> {
+fn most_runs(rt: HostRuntime) -> Result<(), Fail> {
     let heap = rt.alloc();
-    let pairs = many_pairs(heap, 200)?;
-    let table = TableBuf::of(&[], pairs.as_slice(), heap)?;
-    assert_eq!(rt; table.table().pair_count(), 200);
-    assert_eq!(rt; table.table().pair(199, 9), Some(ONE));
-    let full = Some(AddError::Refused(Refusal::TooMany));
-    let pairs = many_pairs(heap, 201)?;
-    assert_eq!(rt; failure(heap, &[], pairs.as_slice()), full);
-    let mut pairs = many_pairs(heap, 200)?;
-    pairs.push(pair(65536, 0, ONE))?;
-    assert_eq!(rt; failure(heap, &[], pairs.as_slice()), full);
+    let pairs = letters_of_pairs(heap, 120)?;
+    let fours = letters_of_fours(heap, 80)?;
+    let runs = lend(heap, pairs.as_slice(), fours.as_slice())?;
+    assert_eq!(rt; runs.len(), 200);
+    let table = TableBuf::of(&[], runs.as_slice(), heap)?;
+    let table = table.table();
+    assert_eq!(rt; table.pair_count(), 120);
+    assert_eq!(rt; table.long_count(), 80);
+    assert_eq!(rt; table.pair(119, 9), Some(ONE));
+    assert_eq!(rt; table.long(four(9, 0, 9, 9)), Some(TWO));
+    assert_eq!(rt; table.long(four(9, 79, 9, 9)), Some(TWO));
+    assert_eq!(rt; table.long(four(9, 80, 9, 9)), None);
+    Ok(())
+}
+
+// Why letters, 120 pairs, so many runs of four, and one run more behind them are turned away.
+fn failure_with(
+    heap: Global,
+    letters: &[Letter],
+    fours: u32,
+    last: &[u32],
+) -> Result<Option<AddError>, AllocError> {
+    let pairs = letters_of_pairs(heap, 120)?;
+    let fours = letters_of_fours(heap, fours)?;
+    let mut runs = lend(heap, pairs.as_slice(), fours.as_slice())?;
+    runs.push(run(last, ONE))?;
+    Ok(failure(heap, letters, runs.as_slice()))
+}
+
+// A last run, and why it is turned away.
+#[derive(Clone, Copy)]
+struct Last(&'static [u32], Refusal);
+
+// 201 are not taken, whatever else is wrong with them or with the letters; the last place is looked at.
+#[test]
+fn too_many_runs(rt: HostRuntime) -> Result<(), Fail> {
+    let heap = rt.alloc();
     let letters = many_letters(heap, 2001, 20000)?;
-    assert_eq!(rt; failure(heap, letters.as_slice(), pairs.as_slice()), full);
-    let mut pairs = many_pairs(heap, 199)?;
-    pairs.push(pair(0, 9, TWO))?;
+    let letters = letters.as_slice();
+    let full = Some(AddError::Refused(Refusal::TooMany));
+    let more: [&[u32]; 5] = [&[7, 7, 7], &[65536, 0], &[0, 9], &[], &[1, 2, 3, 4, 5]];
+    for last in more {
+        assert_eq!(rt; failure_with(heap, &[], 80, last)?, full);
+        assert_eq!(rt; failure_with(heap, letters, 80, last)?, full);
+    }
+    let cases = [
+        Last(&[0, 9], Refusal::Twice(199)),
+        Last(&[9, 78, 9, 9], Refusal::Twice(199)),
+        Last(&[0, 9, 65536], Refusal::Foreign(199)),
+        Last(&[9], Refusal::TooManyLetters),
+        Last(&[9, 8], Refusal::TooManyLetters),
+    ];
+    for Last(last, why) in cases {
+        assert_eq!(rt;
+            failure_with(heap, letters, 79, last)?,
+            Some(AddError::Refused(why))
+        );
+    }
     assert_eq!(rt;
-        failure(heap, letters.as_slice(), pairs.as_slice()),
-        Some(AddError::Refused(Refusal::Twice(199)))
+        failure_with(heap, &[], 79, &[9])?,
+        Some(AddError::Refused(Refusal::RunLength(199)))
     );
-    let mut pairs = many_pairs(heap, 199)?;
-    pairs.push(pair(0, 65536, TWO))?;
-    assert_eq!(rt;
-        failure(heap, letters.as_slice(), pairs.as_slice()),
-        Some(AddError::Refused(Refusal::Foreign(199)))
-    );
-    let pairs = many_pairs(heap, 199)?;
-    assert_eq!(rt;
-        failure(heap, letters.as_slice(), pairs.as_slice()),
-        Some(AddError::Refused(Refusal::TooManyLetters))
-    );
+    assert_eq!(rt; failure_with(heap, &[], 79, &[119, 9, 9])?, None);
     Ok(())
 }

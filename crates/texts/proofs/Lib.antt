@@ -1,5 +1,6 @@
 pub mod Cutting
 pub mod Damage
+pub mod Entering
 pub mod Forming
 pub mod Joining
 pub mod Reading

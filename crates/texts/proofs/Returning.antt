@@ -3,17 +3,20 @@ use Rattle.std.proofs.Common.{◌≡◌, ℕ, zero, suc, ◌-◌, ◌^◌, ◌<�
 use Rattle.std.proofs.lemmas.Bool.{ne_eqb, and_parts, leb-true, cond-true, lt-ltb}
 use Rattle.std.proofs.lemmas.Bool.Decides.{nat_tests}
 use Rattle.std.proofs.lemmas.Fmt.{decimal_is_IsNumeral}
-use Rattle.std.proofs.lemmas.List.{append-nil, get_or-append_right, length-append}
+use Rattle.std.proofs.lemmas.List.{append-nil, append_assoc, get_or-append_right, length-append}
+use Rattle.std.proofs.lemmas.List.Elements.{All-head, All-tail}
+use Rattle.std.specs.List.{All}
 use Rattle.std.specs.Char.{digit_value}
 use Rattle.std.specs.Str.Parse.{AllDigits}
-use Rattle.table.specs.declared.piece.Weights.{Weights}
+use Rattle.pieces.specs.declared.piece.Weights.{Weights}
+use Rattle.pieces.specs.Runs.{long_letters, one_or_none}
 use Rattle.texts.specs.declared.line.Entry.{Entry}
-use Rattle.texts.specs.declared.line.Entry.TheVariants.{Letter, Pair}
-use Rattle.texts.specs.Forms.{AreWeights, HasForm, IsLetter, IsWeight}
+use Rattle.texts.specs.declared.line.Entry.TheVariants.{Letter, Long, Pair}
+use Rattle.texts.specs.Forms.{AreWeighed, AreWeights, HasForm, IsLetter, IsWeight}
 use Rattle.texts.specs.Laws.{AreShort, MayStand, ReadsBack}
 use Rattle.texts.specs.Lines.{Saying, enters, finds, meaning_of, names, says, wants_key}
 use Rattle.texts.specs.Parts.{without_return}
-use Rattle.texts.specs.Written.{hex_text, letter_text, saying_text, weights_text}
+use Rattle.texts.specs.Written.{hex_text, letter_text, letters_text, saying_text, weights_text}
 use Rattle.texts.proofs.Cutting.{IsFree, free_append, free_places, parts_free}
 use Rattle.texts.proofs.Forming.{form_read}
 use Rattle.texts.proofs.Writing.{hex_again}
@@ -35,10 +38,25 @@ weight_written n l = let h = decimal_is_IsNumeral n (omega arith) in (h.0, h.1, 
 weights_written : (w : Weights) → AreShort w → AreWeights (weights_text w) w
 weights_written w l = (decimal w.primary, decimal w.secondary, decimal w.tertiary, weight_written w.primary l.0, weight_written w.secondary l.1, weight_written w.tertiary l.2, refl)
 
+abbrev IsSmall : ℕ → Type 0
+IsSmall a = a < 2 ^ 24
+
+letters_written : (a : ℕ) (bs : List ℕ) (w : Weights) → All IsSmall (a ∷ bs) → AreShort w → AreWeighed (a ∷ bs) w (letters_text (a ∷ bs) ++ (codes " " ++ weights_text w))
+letters_written a [] w h l = (letter_text a, weights_text w, letter_written a (All-head IsSmall a [] h), weights_written w l, refl)
+letters_written a (b ∷ bs) w h l =
+    let rest = letters_text (b ∷ bs) in (
+      letter_text a,
+      rest ++ (codes " " ++ weights_text w),
+      letter_written a (All-head IsSmall a (b ∷ bs) h),
+      letters_written b bs w (All-tail IsSmall a (b ∷ bs) h) l,
+      append_assoc (letter_text a) (codes " " ++ rest) (codes " " ++ weights_text w),
+    )
+
 -- a command that is written has its form
 form_written : (s : Saying) → MayStand s → HasForm s (saying_text s)
 form_written (enters (Letter e)) h = (letter_text e.letter, weights_text e.weights, letter_written e.letter h.0, weights_written e.weights h.1, refl)
-form_written (enters (Pair p)) h = (letter_text p.first, letter_text p.second, weights_text p.weights, letter_written p.first h.0, letter_written p.second h.1, weights_written p.weights h.2, refl)
+form_written (enters (Pair p)) h = inl (letter_text p.first, letter_text p.second, weights_text p.weights, letter_written p.first h.0, letter_written p.second h.1, weights_written p.weights h.2, refl)
+form_written (enters (Long e)) h = (letters_text (long_letters e.run) ++ (codes " " ++ weights_text e.weights), letters_written e.run.first (e.run.second ∷ (e.run.third ∷ one_or_none e.run.fourth)) e.weights h.0 h.1, refl)
 form_written (finds n) h = inr refl
 form_written (wants_key n) h = inr refl
 form_written (names n) h = inl (inr refl)
@@ -75,11 +93,16 @@ behind_space xs ys f g = seen_append xs (codes " " ++ ys) f (omega arith, omega 
 weights_seen : (w : Weights) → AreShort w → IsSeen (weights_text w)
 weights_seen w l = behind_space (decimal w.primary) _ (decimal_seen w.primary l.0) (behind_space (decimal w.secondary) _ (decimal_seen w.secondary l.1) (decimal_seen w.tertiary l.2))
 
+letters_seen : (a : ℕ) (bs : List ℕ) → All IsSmall (a ∷ bs) → IsSeen (letters_text (a ∷ bs))
+letters_seen a [] h = letter_seen a (All-head IsSmall a [] h)
+letters_seen a (b ∷ bs) h = behind_space (letter_text a) _ (letter_seen a (All-head IsSmall a (b ∷ bs) h)) (letters_seen b bs (All-tail IsSmall a (b ∷ bs) h))
+
 entry_seen : (e : Entry) → MayStand (enters e) → IsSeen (saying_text (enters e))
 entry_seen (Letter e) h = seen_append (codes "letter ") _ (search (rules, arith)) (behind_space (letter_text e.letter) _ (letter_seen e.letter h.0) (weights_seen e.weights h.1))
 entry_seen (Pair p) h =
     seen_append (codes "pair ") _ (search (rules, arith))
     (behind_space (letter_text p.first) _ (letter_seen p.first h.0) (behind_space (letter_text p.second) _ (letter_seen p.second h.1) (weights_seen p.weights h.2)))
+entry_seen (Long e) h = seen_append (codes "run ") _ (search (rules, arith)) (behind_space (letters_text (long_letters e.run)) _ (letters_seen e.run.first (e.run.second ∷ (e.run.third ∷ one_or_none e.run.fourth)) h.0) (weights_seen e.weights h.1))
 
 -- no mark below the space stands in them
 seen_free : (m : ℕ) → m < 32 → (xs : List ℕ) → IsSeen xs → IsFree m xs

@@ -1,9 +1,11 @@
 -- The forms that lines have, as anybody would write them down.
-use Rattle.std.specs.Prelude.{◌≡◌, ◌≢◌, ℕ, ◌^◌, ◌<◌, ◌≤◌, ◌⊎◌, true, List, [], ◌++◌, codes, length, take, drop}
+use Rattle.std.specs.Prelude.{◌≡◌, ◌≢◌, ℕ, ◌^◌, ◌<◌, ◌≤◌, ◌⊎◌, true, List, [], ◌∷◌, ◌++◌, codes, length, take, drop}
 use Rattle.std.specs.Str.Parse.{AllDigits, IsNumeral, digits_value}
-use Rattle.table.specs.declared.piece.Weights.{Weights}
+use Rattle.pieces.specs.declared.piece.Weights.{Weights}
+use Rattle.pieces.specs.Runs.{long_letters}
+use Rattle.texts.specs.declared.line.Entry.{Entry}
 use Rattle.texts.specs.Lines.{Saying, enters, finds, names, wants_key}
-use Rattle.texts.specs.declared.line.Entry.TheVariants.{Letter, Pair}
+use Rattle.texts.specs.declared.line.Entry.TheVariants.{Letter, Long, Pair}
 use Rattle.utf8.specs.Laws.{all_letters}
 use Rattle.utf8.specs.Letters.{bytes_of, is_letter, written}
 
@@ -31,22 +33,40 @@ AreWeights x w =
     (p : List ℕ) × (s : List ℕ) × (t : List ℕ) × IsWeight p w.primary × IsWeight s w.secondary × IsWeight t w.tertiary
     × (x ≡ p ++ (codes " " ++ (s ++ (codes " " ++ t))))
 
+-- letters one after the other, a space behind each, and then their weights
+abbrev pub AreWeighed : (letters : List ℕ) → Weights → List ℕ → Type 0
+AreWeighed [] w t = AreWeights t w
+AreWeighed (a ∷ bs) w t = (x : List ℕ) × (rest : List ℕ) × IsLetter x a × AreWeighed bs w rest × (t ≡ x ++ (codes " " ++ rest))
+
+-- the line enters these letters and weights as a run: the word run, the letters and the weights
+abbrev pub IsRunOf : (letters : List ℕ) → Weights → (line : List ℕ) → Type 0
+IsRunOf bs w l = (t : List ℕ) × AreWeighed bs w t × (l ≡ codes "run " ++ t)
+
+-- the line enters an entry as a run, of two letters or of three or four; what one letter weighs is entered by none
+abbrev pub IsRun : Entry → (line : List ℕ) → Type 0
+IsRun (Letter e) l = ⊥
+IsRun (Pair p) l = IsRunOf (p.first ∷ (p.second ∷ [])) p.weights l
+IsRun (Long e) l = IsRunOf (long_letters e.run) e.weights l
+
 -- a word alone has no text behind it; else its text stands behind it and one space
 abbrev pub HasText : (word text line : List ℕ) → Type 0
 HasText w n l = ((l ≡ w) × (n ≡ [])) ⊎ (l ≡ w ++ (codes " " ++ n))
 
--- the five words that say what a line is
+-- the five words that say what a line is, whatever stands behind them; run is none of them: a line with it that is no run is a name
 abbrev pub IsReserved : List ℕ → Type 0
 IsReserved w = (w ≡ codes "letter") ⊎ ((w ≡ codes "pair") ⊎ ((w ≡ codes "find") ⊎ ((w ≡ codes "key") ⊎ (w ≡ codes "name"))))
 
--- the line has the form of what is said: a word, and behind it what the word asks for, one space between; or a name alone, where
--- the line is not empty, and is none of the five words, neither alone nor with a text behind
+-- the line has the form of what is said: a word, and behind it what the word asks for, one space between; two letters that are
+-- one may be entered as a pair or as a run; or a name alone, where the line is not empty, is none of the five words, neither alone
+-- nor with a text behind, and is no run
 abbrev pub HasForm : Saying → (line : List ℕ) → Type 0
 HasForm (enters (Letter e)) l =
     (x : List ℕ) × (y : List ℕ) × IsLetter x e.letter × AreWeights y e.weights × (l ≡ codes "letter " ++ (x ++ (codes " " ++ y)))
 HasForm (enters (Pair p)) l =
-    (x : List ℕ) × (y : List ℕ) × (z : List ℕ) × IsLetter x p.first × IsLetter y p.second × AreWeights z p.weights
-    × (l ≡ codes "pair " ++ (x ++ (codes " " ++ (y ++ (codes " " ++ z)))))
+    ((x : List ℕ) × (y : List ℕ) × (z : List ℕ) × IsLetter x p.first × IsLetter y p.second × AreWeights z p.weights
+    × (l ≡ codes "pair " ++ (x ++ (codes " " ++ (y ++ (codes " " ++ z))))))
+    ⊎ IsRun (Pair p) l
+HasForm (enters (Long e)) l = IsRun (Long e) l
 HasForm (finds n) l = HasText (codes "find") n l
 HasForm (wants_key n) l = HasText (codes "key") n l
-HasForm (names n) l = HasText (codes "name") n l ⊎ ((l ≡ n) × (0 < length n) × ((w t : List ℕ) → IsReserved w → HasText w t n → ⊥))
+HasForm (names n) l = HasText (codes "name") n l ⊎ ((l ≡ n) × (0 < length n) × ((w t : List ℕ) → IsReserved w → HasText w t n → ⊥) × ((e : Entry) → IsRun e n → ⊥))

@@ -1,12 +1,13 @@
 -- What is promised of texts and lines.
 use Rattle.std.specs.Prelude.{◌≡◌, ℕ, ◌-◌, ◌^◌, ◌<◌, List, [], ◌∷◌, ◌++◌, length, None, slice_index}
 use Rattle.std.specs.List.{All, join_with_byte}
-use Rattle.table.specs.declared.piece.Weights.{Weights}
+use Rattle.pieces.specs.declared.piece.Weights.{Weights}
+use Rattle.pieces.specs.Runs.{long_letters}
 use Rattle.texts.specs.Forms.{AreLetters, HasForm, IsDamage}
 use Rattle.texts.specs.Lines.{Saying, damaged, enters, finds, meaning_of, names, says, unreadable, wants_key}
 use Rattle.texts.specs.Parts.{parts, without_return}
 use Rattle.texts.specs.Written.{saying_text}
-use Rattle.texts.specs.declared.line.Entry.TheVariants.{Letter, Pair}
+use Rattle.texts.specs.declared.line.Entry.TheVariants.{Letter, Long, Pair}
 use Rattle.utf8.specs.Reading.{unread}
 
 -- a text in which the mark does not stand
@@ -49,6 +50,7 @@ IsInLine n = (unread n ≡ None) × IsWithout 10 n × (slice_index n (length n -
 abbrev pub MayStand : Saying → Type 0
 MayStand (enters (Letter e)) = (e.letter < 2 ^ 24) × AreShort e.weights
 MayStand (enters (Pair p)) = (p.first < 2 ^ 24) × (p.second < 2 ^ 24) × AreShort p.weights
+MayStand (enters (Long e)) = All (λ a. a < 2 ^ 24) (long_letters e.run) × AreShort e.weights
 MayStand (finds n) = IsInLine n
 MayStand (wants_key n) = IsInLine n
 MayStand (names n) = IsInLine n

@@ -2,11 +2,11 @@
 use Rattle.std.specs.Prelude.{ℕ, cond, List, [], ◌∷◌, Some, None, codes, Option}
 use Rattle.std.specs.Option.{option_map}
 use Rattle.std.specs.Str.{bytes_eq}
-use Rattle.table.specs.declared.piece.Weights.{Weights}
+use Rattle.pieces.specs.declared.piece.Weights.{Weights}
 use Rattle.texts.specs.declared.line.Command.{Command}
 use Rattle.texts.specs.declared.line.Command.TheVariants.{Enter, Find, Key, Name}
 use Rattle.texts.specs.declared.line.Entry.{Entry}
-use Rattle.texts.specs.declared.line.Entry.TheVariants.{Letter, Pair}
+use Rattle.texts.specs.declared.line.Entry.TheVariants.{Letter, Long, Pair}
 use Rattle.texts.specs.declared.line.Line.{Line}
 use Rattle.texts.specs.declared.line.Line.TheVariants.{Blank, NotUtf8, Says, Unreadable}
 use Rattle.texts.specs.declared.line.Word.{Word}
@@ -54,6 +54,30 @@ pair_entry [] = None
 pair_entry (x ∷ []) = None
 pair_entry (x ∷ (y ∷ ws)) = pair_weighs (letter_of x) (letter_of y) (three_weights ws)
 
+-- a run of three letters, or of four where a fourth is said, and its weights; whether its letters are known is for the table to say
+abbrev pub long_weighs : Option ℕ → Option ℕ → Option ℕ → (fourth : Option (Option ℕ)) → Option Weights → Option Entry
+long_weighs None b c d w = None
+long_weighs (Some x) None c d w = None
+long_weighs (Some x) (Some y) None d w = None
+long_weighs (Some x) (Some y) (Some z) None w = None
+long_weighs (Some x) (Some y) (Some z) (Some u) None = None
+long_weighs (Some x) (Some y) (Some z) (Some u) (Some w) =
+    Some (Long (record { run = record { first = x; second = y; third = z; fourth = u }; weights = w }))
+
+-- what stands behind the word run: two letters and three weights are five words, three letters six, and four letters seven
+abbrev pub run_entry : List (List ℕ) → Option Entry
+run_entry [] = None
+run_entry (x ∷ []) = None
+run_entry (x ∷ (y ∷ [])) = None
+run_entry (x ∷ (y ∷ (z ∷ []))) = None
+run_entry (x ∷ (y ∷ (z ∷ (u ∷ [])))) = None
+run_entry (x ∷ (y ∷ (p ∷ (s ∷ (t ∷ []))))) = pair_weighs (letter_of x) (letter_of y) (weights_from (number_of p) (number_of s) (number_of t))
+run_entry (x ∷ (y ∷ (z ∷ (p ∷ (s ∷ (t ∷ [])))))) =
+    long_weighs (letter_of x) (letter_of y) (letter_of z) (Some None) (weights_from (number_of p) (number_of s) (number_of t))
+run_entry (x ∷ (y ∷ (z ∷ (u ∷ (p ∷ (s ∷ (t ∷ []))))))) =
+    long_weighs (letter_of x) (letter_of y) (letter_of z) (option_map Some (letter_of u)) (weights_from (number_of p) (number_of s) (number_of t))
+run_entry (x ∷ (y ∷ (z ∷ (u ∷ (p ∷ (s ∷ (t ∷ (v ∷ ws)))))))) = None
+
 -- what a line may say, in plain values: an entry for the table; names that begin so, or the key of a name, are asked for; one
 -- name more
 pub data Saying : Type 0 where
@@ -72,14 +96,21 @@ abbrev pub word_of : List ℕ → Option Word
 word_of w =
     cond (bytes_eq w (codes "letter")) (Some word.Letter)
     (cond (bytes_eq w (codes "pair")) (Some word.Pair)
+    (cond (bytes_eq w (codes "run")) (Some word.Run)
     (cond (bytes_eq w (codes "find")) (Some word.Find)
     (cond (bytes_eq w (codes "key")) (Some word.Key)
-    (cond (bytes_eq w (codes "name")) (Some word.Name) None))))
+    (cond (bytes_eq w (codes "name")) (Some word.Name) None)))))
+
+-- a run is entered; a line with its word that is none is a name, whole
+abbrev pub run_saying : Option Entry → (line : List ℕ) → Saying
+run_saying None l = names l
+run_saying (Some e) l = enters e
 
 -- what a line says by its first word, and by the text behind it; a line with none of these words is a name, whole
 abbrev pub by_word : Option Word → (text line : List ℕ) → Option Saying
 by_word (Some word.Letter) text l = option_map enters (letter_entry (words text))
 by_word (Some word.Pair) text l = option_map enters (pair_entry (words text))
+by_word (Some word.Run) text l = Some (run_saying (run_entry (words text)) l)
 by_word (Some word.Find) text l = Some (finds text)
 by_word (Some word.Key) text l = Some (wants_key text)
 by_word (Some word.Name) text l = Some (names text)

@@ -9,10 +9,11 @@ use Rattle.keys.specs.Refusals.{name_refusal_number, name_refusal_place}
 use Rattle.order.specs.declared.newer.Change.{Change}
 use Rattle.order.specs.declared.newer.Change.TheVariants.{Utf8, Joins, Counts, Order}
 use Rattle.order.specs.declared.piece.Piece.{Piece}
-use Rattle.order.specs.declared.piece.Piece.TheVariants as piece
+use Rattle.order.specs.Pieces.{run_in}
 use Rattle.table.specs.declared.fault.Refusal.{Refusal}
-use Rattle.table.specs.declared.fault.Refusal.TheVariants.{Letters, Shape, TooMany, Foreign, Twice, TooManyLetters, NoLetter, LetterTwice}
-use Rattle.table.specs.declared.piece.Weights.{Weights}
+use Rattle.table.specs.declared.fault.Refusal.TheVariants.{Letters, Shape, TooMany, Foreign, Twice, TooManyLetters, NoLetter, LetterTwice, RunLength}
+use Rattle.pieces.specs.declared.piece.Weights.{Weights}
+use Rattle.pieces.specs.Runs.{long_letters}
 use Rattle.table.specs.Refusals.{refusal_number, refusal_place}
 use Rattle.texts.specs.declared.fault.Fault.{Fault}
 use Rattle.texts.specs.declared.fault.Fault.TheVariants.{Table, Name, Question, Text, Bytes}
@@ -32,10 +33,17 @@ letter_text a = cond (nat_le 33 a && nat_le a 126) (a ∷ []) (codes "U+" ++ hex
 abbrev pub weights_text : Weights → List ℕ
 weights_text w = decimal w.primary ++ (codes " " ++ (decimal w.secondary ++ (codes " " ++ decimal w.tertiary)))
 
+-- letters with a space between
+abbrev pub letters_text : List ℕ → List ℕ
+letters_text [] = []
+letters_text (a ∷ []) = letter_text a
+letters_text (a ∷ (b ∷ bs)) = letter_text a ++ (codes " " ++ letters_text (b ∷ bs))
+
 -- an entry, as the line that says it
 abbrev pub entry_text : Entry → List ℕ
 entry_text (entry.Letter e) = codes "letter " ++ (letter_text e.letter ++ (codes " " ++ weights_text e.weights))
 entry_text (entry.Pair p) = codes "pair " ++ (letter_text p.first ++ (codes " " ++ (letter_text p.second ++ (codes " " ++ weights_text p.weights))))
+entry_text (entry.Long e) = codes "run " ++ (letters_text (long_letters e.run) ++ (codes " " ++ weights_text e.weights))
 
 -- a command, as the line that says it
 abbrev pub saying_text : Saying → List ℕ
@@ -50,7 +58,7 @@ numbers_text [] = []
 numbers_text (x ∷ []) = decimal x
 numbers_text (x ∷ (y ∷ xs)) = decimal x ++ (codes " " ++ numbers_text (y ∷ xs))
 
--- the number of what is turned away: 1 a table, 2 a name, 3 a text, 4 a letter, 5 bytes
+-- the number of what is turned away: 1 a table, 2 a name, 3 a text, 4 a letter, 5 bytes, 6 how many letters a run has
 abbrev pub fault_number : Fault → ℕ
 fault_number (Table why) = refusal_number why
 fault_number (Name why) = name_refusal_number why
@@ -70,12 +78,13 @@ fault_place (Bytes byte) = byte
 abbrev pub refusal_sentence : Refusal → List ℕ
 refusal_sentence Letters = codes "a table has three weights for each of 256 letters"
 refusal_sentence Shape = codes "each pair is five numbers, two letters and three weights"
-refusal_sentence TooMany = codes "a table has at most 200 pairs"
-refusal_sentence (Foreign k) = codes "the letters of a pair are at most U+FFFF, and U+00FF where each byte is one"
-refusal_sentence (Twice k) = codes "these two letters are a pair already"
+refusal_sentence TooMany = codes "a table has at most 200 pairs and longer runs"
+refusal_sentence (Foreign k) = codes "the letters of a pair or a longer run are at most U+FFFF, and U+00FF where each byte is one"
+refusal_sentence (Twice k) = codes "these letters are one together already"
 refusal_sentence TooManyLetters = codes "a table has at most 2000 letters that weigh something"
 refusal_sentence (NoLetter k) = codes "letters are U+0000 to U+FFFF, without U+D800 to U+DFFF"
 refusal_sentence (LetterTwice k) = codes "this letter weighs something already"
+refusal_sentence (RunLength k) = codes "a run has two to four letters"
 
 -- what is wrong with bytes
 abbrev pub bytes_sentence : List ℕ
@@ -105,8 +114,7 @@ fault_text f = codes "turned away with " ++ (decimal (fault_number f) ++ (codes 
 
 -- the letters of a piece, one space between
 abbrev pub piece_text : Piece → List ℕ
-piece_text (piece.Letter a) = letter_text a
-piece_text (piece.Pair a b) = letter_text a ++ (codes " " ++ letter_text b)
+piece_text p = letters_text (run_in p)
 
 -- levels are counted from 1 where they are written
 abbrev pub level_number : Level → ℕ

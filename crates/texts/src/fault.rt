@@ -21,7 +21,7 @@ pub enum Fault {
 }
 
 impl Fault {
-    // The number that is reported: 1 a table, 2 a name, 3 a text, 4 a letter, 5 bytes.
+    // The number that is reported: 1 a table, 2 a name, 3 a text, 4 a letter, 5 bytes, 6 how many letters a run has.
     pub fn number(self) -> u64
         ensures { result ≡ fault_number self }
     {
@@ -66,13 +66,14 @@ fn refusal_sentence(why: Refusal) -> &'static str
     match why {
         Refusal::Letters => "a table has three weights for each of 256 letters",
         Refusal::Shape => "each pair is five numbers, two letters and three weights",
-        Refusal::TooMany => "a table has at most 200 pairs",
+        Refusal::TooMany => "a table has at most 200 pairs and longer runs",
         Refusal::Foreign(_) =>
-            "the letters of a pair are at most U+FFFF, and U+00FF where each byte is one",
-        Refusal::Twice(_) => "these two letters are a pair already",
+            "the letters of a pair or a longer run are at most U+FFFF, and U+00FF where each byte is one",
+        Refusal::Twice(_) => "these letters are one together already",
         Refusal::TooManyLetters => "a table has at most 2000 letters that weigh something",
         Refusal::NoLetter(_) => "letters are U+0000 to U+FFFF, without U+D800 to U+DFFF",
         Refusal::LetterTwice(_) => "this letter weighs something already",
+        Refusal::RunLength(_) => "a run has two to four letters",
     }
 }
 

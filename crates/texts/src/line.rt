@@ -1,12 +1,13 @@
 // What a line says.
 ghost use Rattle.std.specs.Prelude.{◌≡◌};
 ghost use Rattle.std.specs.Option.{option_map};
-ghost use Rattle.texts.specs.Lines.{command_of, letter_entry, meaning, meaning_of, pair_entry, saying, three_weights, word_of};
+ghost use Rattle.texts.specs.Lines.{command_of, letter_entry, meaning, meaning_of, pair_entry, run_entry, saying, three_weights, weights_from, word_of};
+ghost use Rattle.texts.specs.Numerals.{number_of};
 ghost use Rattle.texts.specs.Parts.{words};
 
 use crate::numeral::{letter_number, number};
 use crate::part::{Cut, Parts, first_part};
-use table::{Letter, Pair, Weights};
+use table::{Letter, Long, LongRun, Pair, Weights};
 use utf8::count_letters;
 
 // What a line of a table enters.
@@ -14,8 +15,10 @@ use utf8::count_letters;
 pub enum Entry {
     // `letter X a b c`: what a letter weighs.
     Letter(Letter),
-    // `pair X Y a b c`: two letters that are one together.
+    // `pair X Y a b c`, or `run X Y a b c`: two letters that are one together.
     Pair(Pair),
+    // `run X Y Z a b c`, or `run X Y Z W a b c`: three or four letters that are.
+    Long(Long),
 }
 
 #[derive(Clone, Copy, PartialEq, Eq, Debug)]
@@ -26,7 +29,7 @@ pub enum Command<'a> {
     Find(&'a [u8]),
     // `key X`: asks for the sort key of a name.
     Key(&'a [u8]),
-    // `name X`, and every line that begins with no such word: one name more.
+    // `name X`, and every line that begins with no such word, or with `run` and is no run: one name more.
     Name(&'a [u8]),
 }
 
@@ -35,7 +38,7 @@ pub enum Line<'a> {
     // Nothing stands in it.
     Blank,
     Says(Command<'a>),
-    // It begins with the word of an entry, and has not its form.
+    // It begins with `letter` or `pair`, and has not the form of its entry.
     Unreadable,
     // It is not in UTF-8, or has a letter above 65,535: the first byte at which no letter can be read.
     NotUtf8(usize),
@@ -43,7 +46,7 @@ pub enum Line<'a> {
 
 impl<'a> Line<'a> {
     // What a line says, without its end.
-    #[tactic(auto, using(crate::proofs::Saying::blank_line, crate::proofs::Saying::damaged_line, crate::proofs::Saying::some_line))]
+    #[tactic(auto, using(crate::proofs::Saying::blank_line, crate::proofs::Saying::damaged_line))]
     pub fn read(line: &'a [u8]) -> Line<'a>
         ensures { meaning result ≡ meaning_of line.now }
     {
@@ -70,6 +73,10 @@ impl<'a> Command<'a> {
         match Word::of(word) {
             Some(Word::Letter) => Some(Command::Enter(read_letter(text)?)),
             Some(Word::Pair) => Some(Command::Enter(read_pair(text)?)),
+            Some(Word::Run) => Some(match read_run(text) {
+                Some(run) => Command::Enter(run),
+                None => Command::Name(line),
+            }),
             Some(Word::Find) => Some(Command::Find(text)),
             Some(Word::Key) => Some(Command::Key(text)),
             Some(Word::Name) => Some(Command::Name(text)),
@@ -83,6 +90,7 @@ impl<'a> Command<'a> {
 enum Word {
     Letter,
     Pair,
+    Run,
     Find,
     Key,
     Name,
@@ -95,6 +103,7 @@ impl Word {
         match word {
             b"letter" => Some(Word::Letter),
             b"pair" => Some(Word::Pair),
+            b"run" => Some(Word::Run),
             b"find" => Some(Word::Find),
             b"key" => Some(Word::Key),
             b"name" => Some(Word::Name),
@@ -128,19 +137,71 @@ fn read_pair(text: &[u8]) -> Option<Entry>
     }))
 }
 
+// Two to four letters and what they weigh together.
+fn read_run(text: &[u8]) -> Option<Entry>
+    ensures { result ≡ run_entry (words text.now) }
+{
+    let mut words = Parts::new(text, b' ');
+    let first = words.next()?;
+    let second = words.next()?;
+    let third = words.next()?;
+    let fourth = words.next()?;
+    let fifth = words.next()?;
+    match (words.next(), words.next(), words.next()) {
+        (None, _, _) => {
+            let first = letter_number(first)?;
+            let second = letter_number(second)?;
+            let weights = weights_of(third, fourth, fifth)?;
+            Some(Entry::Pair(Pair {
+                first,
+                second,
+                weights,
+            }))
+        }
+        (Some(sixth), None, _) => {
+            let run = LongRun {
+                first: letter_number(first)?,
+                second: letter_number(second)?,
+                third: letter_number(third)?,
+                fourth: None,
+            };
+            let weights = weights_of(fourth, fifth, sixth)?;
+            Some(Entry::Long(Long { run, weights }))
+        }
+        (Some(sixth), Some(seventh), None) => {
+            let run = LongRun {
+                first: letter_number(first)?,
+                second: letter_number(second)?,
+                third: letter_number(third)?,
+                fourth: Some(letter_number(fourth)?),
+            };
+            let weights = weights_of(fifth, sixth, seventh)?;
+            Some(Entry::Long(Long { run, weights }))
+        }
+        _ => None,
+    }
+}
+
 // Three numbers and nothing behind.
 fn read_weights(mut words: Parts) -> Option<Weights>
     ensures { result ≡ three_weights words.entry }
 {
-    let primary = number(words.next()?)?;
-    let secondary = number(words.next()?)?;
-    let tertiary = number(words.next()?)?;
+    let primary = words.next()?;
+    let secondary = words.next()?;
+    let tertiary = words.next()?;
     if words.next().is_some() {
         return None;
     }
+    weights_of(primary, secondary, tertiary)
+}
+
+// Three words as weights.
+fn weights_of(primary: &[u8], secondary: &[u8], tertiary: &[u8]) -> Option<Weights>
+    ensures { result ≡ weights_from (number_of primary.now) (number_of secondary.now) (number_of tertiary.now) }
+{
     Some(Weights {
-        primary,
-        secondary,
-        tertiary,
+        primary: number(primary)?,
+        secondary: number(secondary)?,
+        tertiary: number(tertiary)?,
     })
 }

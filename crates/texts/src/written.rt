@@ -41,11 +41,16 @@ impl fmt::Display for Entry {
                 let weights = Levels(pair.weights);
                 write!(f, "pair {first} {second} {weights}")
             }
+            Entry::Long(long) => {
+                let letters = Letters(Piece::from(long.run));
+                let weights = Levels(long.weights);
+                write!(f, "run {letters} {weights}")
+            }
         }
     }
 }
 
-// The three weights of a letter or a pair, one space between.
+// The three weights of a letter or a run, one space between.
 #[derive(Clone, Copy)]
 struct Levels(Weights);
 
@@ -129,6 +134,19 @@ impl fmt::Display for Letters {
                 let first = Letter(first);
                 let second = Letter(second);
                 write!(f, "{first} {second}")
+            }
+            Piece::Three(first, second, third) => {
+                let first = Letter(first);
+                let second = Letter(second);
+                let third = Letter(third);
+                write!(f, "{first} {second} {third}")
+            }
+            Piece::Four(first, second, third, fourth) => {
+                let first = Letter(first);
+                let second = Letter(second);
+                let third = Letter(third);
+                let fourth = Letter(fourth);
+                write!(f, "{first} {second} {third} {fourth}")
             }
         }
     }

@@ -4,4 +4,6 @@
 #[cfg(test)]
 mod read;
 #[cfg(test)]
+mod runs;
+#[cfg(test)]
 mod write;

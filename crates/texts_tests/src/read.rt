@@ -3,7 +3,7 @@ use std::process::Abort;
 use table::{Letter, Pair, Weights};
 use texts::{Command, Entry, Line, Parts, whole_number, without_return};
 
-const ONE: Weights = Weights {
+pub(crate) const ONE: Weights = Weights {
     primary: 1,
     secondary: 2,
     tertiary: 3,
@@ -13,7 +13,7 @@ fn letter(letter: u32, weights: Weights) -> Line<'static> {
     Line::Says(Command::Enter(Entry::Letter(Letter { letter, weights })))
 }
 
-fn pair(first: u32, second: u32) -> Line<'static> {
+pub(crate) fn pair(first: u32, second: u32) -> Line<'static> {
     Line::Says(Command::Enter(Entry::Pair(Pair {
         first,
         second,
@@ -23,9 +23,9 @@ fn pair(first: u32, second: u32) -> Line<'static> {
 
 // A line, and what it says.
 #[derive(Clone, Copy)]
-struct Case(&'static [u8], Line<'static>);
+pub(crate) struct Case(pub &'static [u8], pub Line<'static>);
 
-fn hold(rt: &impl Abort, cases: &[Case]) {
+pub(crate) fn hold(rt: &impl Abort, cases: &[Case]) {
     for Case(line, meaning) in cases {
         assert_eq!(rt; Line::read(line), *meaning);
     }
@@ -134,7 +134,7 @@ fn pairs(rt: HostRuntime) {
     );
 }
 
-fn find(ask: &[u8]) -> Line<'_> {
+pub(crate) fn find(ask: &[u8]) -> Line<'_> {
     Line::Says(Command::Find(ask))
 }
 
@@ -142,7 +142,7 @@ fn key(name: &[u8]) -> Line<'_> {
     Line::Says(Command::Key(name))
 }
 
-fn name(name: &[u8]) -> Line<'_> {
+pub(crate) fn name(name: &[u8]) -> Line<'_> {
     Line::Says(Command::Name(name))
 }
 
@@ -192,7 +192,6 @@ fn names(rt: HostRuntime) {
             Case(b"letters a 1 2 3", name(b"letters a 1 2 3")),
             Case(b"Letter a 1 2 3", name(b"Letter a 1 2 3")),
             Case(b" letter a 1 2 3", name(b" letter a 1 2 3")),
-            Case(b"run d z s 45 1 1", name(b"run d z s 45 1 1")),
             Case(b"K\xc3\xa4se", name(b"K\xc3\xa4se")),
             Case(b"\xe2\x82\xac 5", name(b"\xe2\x82\xac 5")),
             Case(b"\x00", name(b"\x00")),

@@ -2,7 +2,7 @@
 use keys::{Level, NameRefusal};
 use order::{Change, Piece};
 use std::test::Fail;
-use table::{Letter, Pair, Refusal, Weights};
+use table::{Letter, Long, LongRun, Pair, Refusal, Weights};
 use texts::{Command, Entry, Fault, Line, Numbers, Told, without_return};
 
 const ONE: Weights = Weights {
@@ -33,6 +33,10 @@ fn entries(rt: HostRuntime) -> Result<(), Fail> {
     assert_eq!(rt; wide.as_str(), "pair U+007F U+ABCD 1 0 65535");
     let large = pair(0x20ac, 0x1f600).to_string(heap)?;
     assert_eq!(rt; large.as_str(), "pair U+20AC U+1F600 1 0 65535");
+    let three = long(100, 0x20ac, 115, None).to_string(heap)?;
+    assert_eq!(rt; three.as_str(), "run d U+20AC s 1 0 65535");
+    let four = long(32, 126, 0x1f600, Some(43)).to_string(heap)?;
+    assert_eq!(rt; four.as_str(), "run U+0020 ~ U+1F600 + 1 0 65535");
     Ok(())
 }
 
@@ -51,6 +55,18 @@ fn pair(first: u32, second: u32) -> Entry {
     Entry::Pair(Pair {
         first,
         second,
+        weights: ONE,
+    })
+}
+
+fn long(first: u32, second: u32, third: u32, fourth: Option<u32>) -> Entry {
+    Entry::Long(Long {
+        run: LongRun {
+            first,
+            second,
+            third,
+            fourth,
+        },
         weights: ONE,
     })
 }
@@ -84,6 +100,24 @@ fn commands(rt: HostRuntime) -> Result<(), Fail> {
             Command::Enter(pair(10, 13)),
             b"pair U+000A U+000D 1 0 65535",
         ),
+        Case(
+            Command::Enter(long(49, 50, 51, None)),
+            b"run 1 2 3 1 0 65535",
+        ),
+        Case(
+            Command::Enter(long(85, 32, 0x20ac, None)),
+            b"run U U+0020 U+20AC 1 0 65535",
+        ),
+        Case(
+            Command::Enter(long(100, 122, 115, Some(116))),
+            b"run d z s t 1 0 65535",
+        ),
+        Case(
+            Command::Enter(long(10, 13, 0xffffff, Some(0xd800))),
+            b"run U+000A U+000D U+FFFFFF U+D800 1 0 65535",
+        ),
+        Case(Command::Name(b"run d z s 45 1 1"), b"name run d z s 45 1 1"),
+        Case(Command::Name(b"run"), b"name run"),
     ] {
         let written = command.to_line(rt.alloc())?;
         assert_eq!(rt; written.as_slice(), line);
@@ -99,6 +133,10 @@ fn not_read_again(rt: HostRuntime) -> Result<(), Fail> {
     let seven = Command::Enter(letter(0x1000000)).to_line(heap)?;
     assert_eq!(rt; seven.as_slice(), b"letter U+1000000 1 0 65535".as_slice());
     assert_eq!(rt; Line::read(&seven), Line::Unreadable);
+    let run = Command::Enter(long(100, 122, 0x1000000, None)).to_line(heap)?;
+    let text = b"run d z U+1000000 1 0 65535".as_slice();
+    assert_eq!(rt; run.as_slice(), text);
+    assert_eq!(rt; Line::read(&run), Line::Says(Command::Name(text)));
     let damaged = Command::Key(b"a\xff").to_line(heap)?;
     assert_eq!(rt; damaged.as_slice(), b"key a\xff".as_slice());
     assert_eq!(rt; Line::read(&damaged), Line::NotUtf8(5));
@@ -115,15 +153,19 @@ fn messages(rt: HostRuntime) -> Result<(), Fail> {
     for Said(fault, text) in [
         Said(
             Fault::Table(Refusal::Twice(17)),
-            "turned away with 1 at 17: these two letters are a pair already",
+            "turned away with 1 at 17: these letters are one together already",
         ),
         Said(
             Fault::Table(Refusal::TooMany),
-            "turned away with 1 at 0: a table has at most 200 pairs",
+            "turned away with 1 at 0: a table has at most 200 pairs and longer runs",
         ),
         Said(
             Fault::Table(Refusal::Foreign(2)),
-            "turned away with 1 at 2: the letters of a pair are at most U+FFFF, and U+00FF where each byte is one",
+            "turned away with 1 at 2: the letters of a pair or a longer run are at most U+FFFF, and U+00FF where each byte is one",
+        ),
+        Said(
+            Fault::Table(Refusal::RunLength(3)),
+            "turned away with 6 at 3: a run has two to four letters",
         ),
         Said(
             Fault::Table(Refusal::TooManyLetters),
@@ -208,6 +250,18 @@ fn changes(rt: HostRuntime) -> Result<(), Fail> {
     assert_eq!(rt;
         order.as_str(),
         "U+20AC and c U+0020 stand otherwise on level 3"
+    );
+    let three = Piece::Three(100, 122, 115);
+    let four = Piece::Four(116, 32, 0x20ac, 104);
+    let runs = Told(Change::Order(four, three, Level::Primary)).to_string(heap)?;
+    assert_eq!(rt;
+        runs.as_str(),
+        "t U+0020 U+20AC h and d z s stand otherwise on level 1"
+    );
+    let joined = Told(Change::Joins(three)).to_string(heap)?;
+    assert_eq!(rt;
+        joined.as_str(),
+        "d z s are one together in only one of the tables"
     );
     Ok(())
 }

@@ -7,10 +7,9 @@
 ghost use Rattle.std.specs.Prelude.{◌≡◌, ◌-◌, cond, [], is_none, length, ◌&&◌};
 ghost use Rattle.catalogue.specs.Checking.{lists_of};
 ghost use Rattle.catalogue.specs.Lists.{lists, names_fault};
-ghost use Rattle.timing.specs.Totals.{Listed, are_names, lists_right, found_at, in_order_at, key_at, numbered, room_after, total, written};
+ghost use Rattle.timing.specs.Totals.{Listed, are_names, lists_right, found_at, in_order_at, key_at, numbered, room_after, total, written, TableOf};
 ghost use Rattle.table.specs.Meaning.{rules_of};
 ghost use Rattle.table.specs.Rules.{rules_by};
-ghost use Rattle.timing.specs.Totals.{TableOf};
 
 use catalogue::{Catalogue, Names};
 use keys::SortKeys;
@@ -177,7 +176,9 @@ fn table_of<'a>(
 ) -> Option<Table<'a>>
     ensures { TableOf letters.now pairs.now how_many utf8 result }
 {
-    let table = Table::check(letters, pairs, how_many).ok()?;
+    let Ok(table) = Table::check(letters, pairs, how_many) else {
+        return None;
+    };
     Some(if utf8 { table.in_utf8() } else { table })
 }
 

@@ -1,11 +1,14 @@
 // The letters that names are mostly made of, and any others.
 use crate::dice::Dice;
+use crate::joined::Joined;
 
 #[derive(Drop)]
 pub(crate) struct Alphabet {
     // Whether names are written in UTF-8; else each letter is a byte.
     pub(crate) utf8: bool,
     pub(crate) letters: Vec<u32>,
+    // Runs of three and four letters that names have more often than by chance.
+    pub(crate) longs: Vec<Joined>,
 }
 
 // Letters at the borders of what one, two and three bytes of UTF-8 are.
@@ -26,6 +29,38 @@ impl Alphabet {
         match self.letters.get(place) {
             Some(letter) => *letter,
             None => self.any(dice),
+        }
+    }
+
+    // One of the runs, if there are any.
+    fn long(&self, dice: &mut Dice) -> Option<Joined> {
+        let place = dice.below(self.longs.len());
+        self.longs.get(place).copied()
+    }
+}
+
+// The letters of a name, one after the other: any of the alphabet, or the next of a run, which may be broken off.
+#[derive(Clone, Copy)]
+pub(crate) struct Spelling {
+    run: Option<Joined>,
+    at: usize,
+}
+
+impl Spelling {
+    pub(crate) fn new() -> Spelling {
+        Spelling { run: None, at: 0 }
+    }
+
+    pub(crate) fn next(&mut self, dice: &mut Dice, alphabet: &Alphabet) -> u32 {
+        if dice.once_in(4) {
+            self.run = alphabet.long(dice);
+            self.at = 0;
+        }
+        let at = self.at;
+        self.at = at.saturating_add(1);
+        match self.run.and_then(|run| run.letters().get(at).copied()) {
+            Some(letter) => letter,
+            None => alphabet.one(dice),
         }
     }
 }

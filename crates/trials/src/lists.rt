@@ -1,7 +1,8 @@
 // Lists of names and what is found in them, by looking at each name.
 ghost use Rattle.std.specs.Prelude.{◌≡◌, ◌-◌, ◌^◌, min};
 
-use crate::plain::{Name, Plain, begins, compare};
+use crate::named::{Name, begins, compare};
+use crate::plain::Plain;
 use crate::reading;
 use catalogue::ListFault;
 use std::alloc::{AllocError, Global};

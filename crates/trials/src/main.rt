@@ -5,7 +5,9 @@
 mod alphabet;
 mod dice;
 mod drawn;
+mod joined;
 mod lists;
+mod named;
 mod plain;
 mod reading;
 mod report;

@@ -1,10 +1,9 @@
-// The rules of the order, written down once more over plain numbers. Nothing here asks the library.
+// Tables in plain numbers. Nothing here asks the library.
 ghost use Rattle.std.specs.Prelude.{◌≡◌, ◌/◌, length};
 
+use crate::joined::Joined;
 use crate::reading;
-use keys::NameRefusal;
 use std::alloc::{AllocError, Global};
-use std::cmp::Ordering;
 use std::fmt;
 use table::{Letter, Pair, Refusal, Weights};
 
@@ -17,6 +16,8 @@ pub(crate) struct Plain {
     pub(crate) letters: Vec<u16>,
     pub(crate) pairs: Vec<u16>,
     pub(crate) how_many: u64,
+    // Runs of three and four letters, in the order in which they came.
+    pub(crate) longs: Vec<Joined>,
 }
 
 impl Plain {
@@ -28,6 +29,7 @@ impl Plain {
             letters: vec![in heap; 0; numbers]?,
             pairs: Vec::new(heap),
             how_many: 0,
+            longs: Vec::new(heap),
         })
     }
 
@@ -37,6 +39,7 @@ impl Plain {
             letters: self.letters.to_vec(heap)?,
             pairs: self.pairs.to_vec(heap)?,
             how_many: self.how_many,
+            longs: self.longs.to_vec(heap)?,
         })
     }
 
@@ -48,16 +51,16 @@ impl Plain {
         }
     }
 
-    pub(crate) fn push_pair(
-        &mut self,
-        first: u32,
-        second: u32,
-        weights: [u16; 3],
-    ) -> Result<(), AllocError> {
-        for letter in [first, second] {
-            self.pairs.push(u16::try_from(letter).unwrap_or(u16::MAX))?;
+    // A run more, of two letters or of more.
+    pub(crate) fn push_run(&mut self, run: Joined) -> Result<(), AllocError> {
+        if run.pair().is_none() {
+            self.longs.push(run)?;
+            return Ok(());
         }
-        self.pairs.extend_from_slice(&weights)?;
+        for letter in run.letters() {
+            self.pairs.push(u16::try_from(*letter).unwrap_or(u16::MAX))?;
+        }
+        self.pairs.extend_from_slice(&run.weights)?;
         self.how_many = self.how_many.saturating_add(1);
         Ok(())
     }
@@ -73,6 +76,19 @@ impl Plain {
         self.pairs = pairs;
         self.how_many = self.pair_count() as u64;
         Ok(())
+    }
+
+    // A run less; pairs are counted before longer ones.
+    pub(crate) fn drop_run(&mut self, heap: Global, place: usize) -> Result<(), AllocError> {
+        let pairs = self.pair_count();
+        let mut longs = Vec::new(heap);
+        for (k, long) in self.longs.iter().enumerate() {
+            if pairs.saturating_add(k) != place {
+                longs.push(*long)?;
+            }
+        }
+        self.longs = longs;
+        self.drop_pair(heap, place)
     }
 
     // How many letters weigh something.
@@ -92,6 +108,15 @@ impl Plain {
         self.pairs.len() / 5
     }
 
+    pub(crate) fn run_count(&self) -> usize {
+        self.pair_count().saturating_add(self.longs.len())
+    }
+
+    // Whether it may be lent as numbers: they are bytes, and no longer runs.
+    pub(crate) fn is_numbers(&self) -> bool {
+        !self.utf8 && self.longs.is_empty()
+    }
+
     // What a letter weighs.
     pub(crate) fn letter(&self, letter: u32) -> [u16; 3] {
         let at = 3 * letter as usize;
@@ -108,6 +133,19 @@ impl Plain {
                 if *one as u32 == first && *other as u32 == second {
                     return Some([*primary, *secondary, *tertiary]);
                 }
+            }
+        }
+        None
+    }
+
+    // What letters weigh together, where they are one.
+    pub(crate) fn run(&self, letters: &[u32]) -> Option<[u16; 3]> {
+        if let [first, second] = letters {
+            return self.pair(*first, *second);
+        }
+        for long in &self.longs {
+            if long.letters() == letters {
+                return Some(long.weights);
             }
         }
         None
@@ -142,13 +180,17 @@ impl Plain {
         Ok(letters)
     }
 
-    // The pairs, as they lie.
-    pub(crate) fn listed_pairs(&self, heap: Global) -> Result<Vec<Pair>, AllocError> {
-        let mut pairs = Vec::new(heap);
-        for pair in (0..self.pair_count()).filter_map(|place| self.pair_at(place)) {
-            pairs.push(pair)?;
+    // The runs: the pairs, as they lie, and behind them the longer ones.
+    pub(crate) fn listed_runs(&self, heap: Global) -> Result<Vec<Joined>, AllocError> {
+        let mut runs = Vec::new(heap);
+        for pair in self.pairs.chunks_exact(5) {
+            if let [first, second, primary, secondary, tertiary] = pair {
+                let letters = [u32::from(*first), u32::from(*second)];
+                runs.push(Joined::new(&letters, [*primary, *secondary, *tertiary]))?;
+            }
         }
-        Ok(pairs)
+        runs.extend_from_slice(&self.longs)?;
+        Ok(runs)
     }
 
     // Why a letter can't be one more, where so many weigh something.
@@ -171,15 +213,15 @@ impl Plain {
         }
     }
 
-    // Why a pair can't be one more.
-    pub(crate) fn pair_refusal(&self, first: u32, second: u32) -> Option<Refusal> {
-        let place = self.pair_count();
+    // Why a run can't be one more.
+    pub(crate) fn run_refusal(&self, letters: &[u32]) -> Option<Refusal> {
+        let place = self.run_count();
         let last = if self.utf8 { 65535 } else { 255 };
         if place >= 200 {
             Some(Refusal::TooMany)
-        } else if first > last || second > last {
+        } else if letters.iter().any(|letter| *letter > last) {
             Some(Refusal::Foreign(place))
-        } else if self.pair(first, second).is_some() {
+        } else if self.run(letters).is_some() {
             Some(Refusal::Twice(place))
         } else {
             None
@@ -211,56 +253,6 @@ impl Plain {
         }
         None
     }
-
-    // What a name is read as, from the left: the weights of each letter, and of two that are one.
-    fn pieces(&self, heap: Global, name: &[u8]) -> Result<Vec<[u16; 3]>, AllocError> {
-        let mut pieces = Vec::new(heap);
-        let mut taken = false;
-        let letters = reading::letters(heap, self.utf8, name)?;
-        for (place, letter) in letters.iter().enumerate() {
-            if taken {
-                taken = false;
-                continue;
-            }
-            let together = match letters.get(place + 1) {
-                Some(next) => self.pair(*letter, *next),
-                None => None,
-            };
-            taken = together.is_some();
-            pieces.push(together.unwrap_or(self.letter(*letter)))?;
-        }
-        Ok(pieces)
-    }
-
-    // A name, its key and its first row.
-    pub(crate) fn name(&self, heap: Global, name: &[u8]) -> Result<Name, AllocError> {
-        let pieces = self.pieces(heap, name)?;
-        let row = row(heap, &pieces, 0)?;
-        let mut key = row.to_vec(heap)?;
-        for level in 1..3 {
-            key.push(0)?;
-            key.extend_from_slice(&self::row(heap, &pieces, level)?)?;
-        }
-        Ok(Name {
-            bytes: name.to_vec(heap)?,
-            refusal: reading::refusal(self.utf8, name),
-            key,
-            row,
-        })
-    }
-}
-
-// The weights of a level, without zeros.
-fn row(heap: Global, pieces: &[[u16; 3]], level: usize) -> Result<Vec<u32>, AllocError> {
-    let mut row = Vec::new(heap);
-    for piece in pieces {
-        if let Some(weight) = piece.get(level) {
-            if *weight != 0 {
-                row.push(*weight as u32)?;
-            }
-        }
-    }
-    Ok(row)
 }
 
 // Enough to make the table again: of letters that weigh the same, one behind the other, only the first is told.
@@ -277,34 +269,10 @@ impl fmt::Display for Plain {
         }
         let pairs = &self.pairs;
         let how_many = self.how_many;
-        write!(f, "; {how_many} pairs {pairs:?}")
-    }
-}
-
-// A name as it was read under a table.
-#[derive(Drop)]
-pub(crate) struct Name {
-    pub(crate) bytes: Vec<u8>,
-    // Why it is no name, where it is none.
-    pub(crate) refusal: Option<NameRefusal>,
-    pub(crate) key: Vec<u32>,
-    pub(crate) row: Vec<u32>,
-}
-
-// Which of two keys, or of two rows, is before the other, number by number.
-pub(crate) fn compare(one: &[u32], other: &[u32]) -> Ordering {
-    for (a, b) in one.iter().zip(other) {
-        if *a < *b {
-            return Ordering::Less;
+        write!(f, "; {how_many} pairs {pairs:?}")?;
+        for long in &self.longs {
+            write!(f, ", {long}")?;
         }
-        if *a > *b {
-            return Ordering::Greater;
-        }
+        Ok(())
     }
-    one.len().cmp(&other.len())
-}
-
-// Whether a row begins with another.
-pub(crate) fn begins(row: &[u32], asked: &[u32]) -> bool {
-    row.get(..asked.len()) == Some(asked)
 }

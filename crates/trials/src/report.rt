@@ -7,13 +7,17 @@ use std::fmt;
 #[derive(Clone, Copy)]
 pub(crate) enum Kind {
     Tables,
-    TablesWithoutPairs,
+    TablesWithoutRuns,
     TablesFull,
+    TablesOfLonger,
     Letters,
     Together,
     Apart,
+    LongerTogether,
+    LongerApart,
     Keys,
     KeysWithoutFirst,
+    KeysOfLonger,
     KeysTooLong,
     KeysUnread,
     RoomsWritten,
@@ -42,10 +46,10 @@ pub(crate) enum Kind {
     Pushed,
     PushedTooLong,
     PushedUnread,
-    PairsAdded,
-    PairsTwice,
-    PairsForeign,
-    PairsTooMany,
+    RunsAdded,
+    RunsTwice,
+    RunsForeign,
+    RunsTooMany,
     LettersAdded,
     LettersTwice,
     LettersForeign,
@@ -69,6 +73,7 @@ pub(crate) enum Kind {
     NoTableTooManyLetters,
     NoTableNoLetter,
     NoTableLetterTwice,
+    NoTableRunLength,
     ListsUnharmed,
     NoListStart,
     NoListFalls,
@@ -82,20 +87,33 @@ pub(crate) enum Kind {
 }
 
 // As many as there are.
-const KINDS: usize = 73;
+const KINDS: usize = 78;
 
 // What each kind is called, in the order in which they are written.
 static CALLED: [(Kind, &str); KINDS] = [
     (Kind::Tables, "tables"),
-    (Kind::TablesWithoutPairs, "of them without pairs"),
-    (Kind::TablesFull, "of them with 200 pairs"),
+    (Kind::TablesWithoutRuns, "of them without runs"),
+    (Kind::TablesFull, "of them with 200 runs"),
+    (Kind::TablesOfLonger, "of them with longer runs than pairs"),
     (Kind::Letters, "letters looked up"),
     (Kind::Together, "times two letters looked up that are one"),
     (Kind::Apart, "times two letters looked up that are not"),
+    (
+        Kind::LongerTogether,
+        "times three or four letters looked up that are one",
+    ),
+    (
+        Kind::LongerApart,
+        "times three or four letters looked up that are not",
+    ),
     (Kind::Keys, "keys"),
     (
         Kind::KeysWithoutFirst,
         "of them with no weight on level one",
+    ),
+    (
+        Kind::KeysOfLonger,
+        "of them of names with three or four letters that are one",
     ),
     (Kind::KeysTooLong, "of them of names with 1,001 letters"),
     (Kind::KeysUnread, "of them of names not in UTF-8"),
@@ -125,13 +143,13 @@ static CALLED: [(Kind, &str); KINDS] = [
     (Kind::Pushed, "names pushed"),
     (Kind::PushedTooLong, "names not taken, too long"),
     (Kind::PushedUnread, "names not taken, not in UTF-8"),
-    (Kind::PairsAdded, "pairs added"),
-    (Kind::PairsTwice, "pairs not taken, there already"),
+    (Kind::RunsAdded, "runs added"),
+    (Kind::RunsTwice, "runs not taken, there already"),
     (
-        Kind::PairsForeign,
-        "pairs not taken, with a letter that is too large",
+        Kind::RunsForeign,
+        "runs not taken, with a letter that is too large",
     ),
-    (Kind::PairsTooMany, "pairs not taken, too many"),
+    (Kind::RunsTooMany, "runs not taken, too many"),
     (Kind::LettersAdded, "letters added"),
     (Kind::LettersTwice, "letters not taken, there already"),
     (Kind::LettersForeign, "letters not taken, none of the table"),
@@ -147,7 +165,7 @@ static CALLED: [(Kind, &str); KINDS] = [
     ),
     (Kind::Grown, "times grown names put in order"),
     (Kind::NewerKeeps, "newer tables that keep the order"),
-    (Kind::NewerJoins, "newer tables with other pairs"),
+    (Kind::NewerJoins, "newer tables with other runs"),
     (Kind::NewerCounts, "newer tables with other zeros"),
     (Kind::NewerOrders, "newer tables that turn pieces"),
     (Kind::NewerReads, "newer tables that read otherwise"),
@@ -155,17 +173,14 @@ static CALLED: [(Kind, &str); KINDS] = [
     (Kind::TablesUnharmed, "damaged tables that still are tables"),
     (Kind::NoTableLetters, "tables turned away for their letters"),
     (Kind::NoTableShape, "tables turned away for their shape"),
-    (
-        Kind::NoTableTooMany,
-        "tables turned away for too many pairs",
-    ),
+    (Kind::NoTableTooMany, "tables turned away for too many runs"),
     (
         Kind::NoTableForeign,
         "tables turned away for a letter that is too large",
     ),
     (
         Kind::NoTableTwice,
-        "tables turned away for a pair there twice",
+        "tables turned away for a run there twice",
     ),
     (
         Kind::NoTableTooManyLetters,
@@ -178,6 +193,10 @@ static CALLED: [(Kind, &str); KINDS] = [
     (
         Kind::NoTableLetterTwice,
         "tables turned away for a letter there twice",
+    ),
+    (
+        Kind::NoTableRunLength,
+        "tables turned away for how many letters a run has",
     ),
     (Kind::ListsUnharmed, "damaged lists that still are lists"),
     (Kind::NoListStart, "lists turned away without a start"),

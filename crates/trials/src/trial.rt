@@ -2,11 +2,13 @@
 use crate::alphabet::Alphabet;
 use crate::dice::Dice;
 use crate::drawn::Drawn;
+use crate::joined::lent;
 use crate::plain::Plain;
 use crate::report::Report;
 use std::alloc::{AllocError, Global};
 use table::{AddError, Table, TableBuf};
 
+mod changed;
 mod comparing;
 mod damaging;
 mod finding;
@@ -15,6 +17,7 @@ mod keying;
 mod listing;
 mod looking;
 mod recording;
+mod records;
 mod renewing;
 mod spoiling;
 mod widening;
@@ -32,20 +35,34 @@ pub(crate) fn run(heap: Global, number: u64, report: &mut Report) -> Result<(), 
     let mut dice = Dice::new(number);
     let drawn = Drawn::new(heap, &mut dice)?;
     let plain = &drawn.plain;
-    match Table::check(&plain.letters, &plain.pairs, plain.how_many) {
-        Ok(table) => {
-            let both = Both {
-                plain,
-                table,
-                alphabet: &drawn.alphabet,
-            };
-            run_under(heap, &mut dice, &both, report)?;
-            damaging::run(heap, &mut dice, &both, report)?;
-            spoiling::run(heap, &mut dice, &both, report)?;
-            widening::run(heap, &mut dice, &both, report)
-        }
-        Err(why) => report.differ(plain, format!(in heap; "a table is turned away: {why:?}")?),
+    if plain.is_numbers() {
+        return match Table::check(&plain.letters, &plain.pairs, plain.how_many) {
+            Ok(table) => run_bytes(heap, &mut dice, &drawn, table, report),
+            Err(why) => report.differ(plain, format!(in heap; "a table is turned away: {why:?}")?),
+        };
     }
+    match made(heap, plain) {
+        Ok(own) => run_bytes(heap, &mut dice, &drawn, own.table(), report),
+        Err(why) => report.differ(plain, format!(in heap; "a table is not made: {why:?}")?),
+    }
+}
+
+fn run_bytes(
+    heap: Global,
+    dice: &mut Dice,
+    drawn: &Drawn,
+    table: Table,
+    report: &mut Report,
+) -> Result<(), AllocError> {
+    let both = Both {
+        plain: &drawn.plain,
+        table,
+        alphabet: &drawn.alphabet,
+    };
+    run_under(heap, dice, &both, report)?;
+    damaging::run(heap, dice, &both, report)?;
+    spoiling::run(heap, dice, &both, report)?;
+    widening::run(heap, dice, &both, report)
 }
 
 // A trial of names in UTF-8.
@@ -97,7 +114,12 @@ fn run_under(
 // The library's table of plain numbers, all at once.
 fn made(heap: Global, plain: &Plain) -> Result<TableBuf, AddError> {
     if plain.utf8 {
-        return TableBuf::of(&plain.listed(heap)?, &plain.listed_pairs(heap)?, heap);
+        let runs = plain.listed_runs(heap)?;
+        return TableBuf::of(&plain.listed(heap)?, &lent(heap, &runs)?, heap);
     }
-    Ok(Table::check(&plain.letters, &plain.pairs, plain.how_many)?.to_buf(heap)?)
+    let mut own = Table::check(&plain.letters, &plain.pairs, plain.how_many)?.to_buf(heap)?;
+    for long in plain.longs.iter().filter_map(|run| run.long()) {
+        own.add_long(long)?;
+    }
+    Ok(own)
 }

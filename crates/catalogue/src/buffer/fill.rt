@@ -1,7 +1,7 @@
 // Filling a catalogue.
 ghost use Rattle.std.specs.Prelude.{[], ◌≡◌, ◌+◌, ◌^◌, ◌<◌, IfOk, None, false, length};
-ghost use Rattle.table.specs.Buffer.{buffer_pairs, buffer_rules};
-ghost use Rattle.table.specs.Meaning.{pairs_of, rules_of};
+ghost use Rattle.table.specs.Buffer.{buffer_longs, buffer_pairs, buffer_rules};
+ghost use Rattle.table.specs.Meaning.{longs_of, pairs_of, rules_of};
 ghost use Rattle.keys.specs.Refusals.{name_refusal};
 
 use crate::buffer::CatalogueBuf;
@@ -9,10 +9,10 @@ use crate::fault::{ListFault, NotTaken, PushError};
 use crate::names::Names;
 use keys::NameRefusal;
 use std::alloc::{AllocError, Global};
-use table::{AddError, Letter, Pair, Table, TableBuf};
+use table::{AddError, Letter, Long, Pair, Table, TableBuf};
 
 impl CatalogueBuf {
-    ghost use Rattle.catalogue.specs.Filling.{Appended, Empty, LetterPut, PairAdded, Pushed, TablePut};
+    ghost use Rattle.catalogue.specs.Filling.{Appended, Empty, LetterPut, LongPut, PairPut, Pushed, TablePut};
 
     // As many names, and as many letters of all names together, as 32 bits can count.
     pub const MAX: usize = u32::MAX as usize;
@@ -67,6 +67,7 @@ impl CatalogueBuf {
     pub fn table(&self) -> Table<'_>
         ensures rules { rules_of result ≡ buffer_rules self.now.table }
         ensures pairs { pairs_of result ≡ buffer_pairs self.now.table }
+        ensures longs { longs_of result ≡ buffer_longs self.now.table }
     {
         self.table.table()
     }
@@ -98,9 +99,19 @@ impl CatalogueBuf {
     // One pair more. One that is turned away changes nothing; where memory is wanting the list is kept too.
     #[tactic(auto, using(crate::proofs::Listing::none_listed, crate::proofs::Listing::not_whole))]
     pub fn add_pair(&mut self, pair: Pair) -> Result<(), AddError>
-        ensures { PairAdded self.old pair result self.new }
+        ensures { PairPut self.old pair result self.new }
     {
         self.table.add_pair(pair)?;
+        let_go(&mut self.places, &mut self.arranged);
+        Ok(())
+    }
+
+    // One run of three or four letters more. One that is turned away changes nothing; where memory is wanting the list is kept too.
+    #[tactic(auto, using(crate::proofs::Listing::none_listed, crate::proofs::Listing::not_whole))]
+    pub fn add_long(&mut self, long: Long) -> Result<(), AddError>
+        ensures { LongPut self.old long result self.new }
+    {
+        self.table.add_long(long)?;
         let_go(&mut self.places, &mut self.arranged);
         Ok(())
     }

@@ -2,9 +2,10 @@
 ghost use Rattle.std.specs.Prelude.{◌≡◌, false, IfOk, slice_set, true};
 ghost use Rattle.catalogue.specs.Filling.{held_rules};
 ghost use Rattle.catalogue.specs.Naming.{names_left};
-ghost use Rattle.nullahbowl.specs.Sessions.{Begun, Fresh, IsListed, Joined, Prepared, Settled, Taken, Weighed, found_names, session_letters};
-ghost use Rattle.table.specs.Buffer.{buffer_pairs, buffer_rules};
-ghost use Rattle.table.specs.Meaning.{pairs_of, rules_of};
+ghost use Rattle.nullahbowl.specs.Sessions.{Begun, Fresh, IsListed, Joined, JoinedLong, Prepared, Settled, Taken, Weighed, all_named, found_names, session_letters};
+ghost use Rattle.table.specs.Buffer.{buffer_longs, buffer_pairs, buffer_rules};
+ghost use Rattle.table.specs.Meaning.{longs_of, pairs_of, rules_of};
+ghost use Rattle.pieces.specs.Runs.{long_letters};
 ghost use Rattle.table.specs.Rules.{in_utf8};
 ghost use Rattle.table.specs.Valley.{valley};
 ghost use Rattle.texts.specs.Lines.{meaning_of};
@@ -15,7 +16,7 @@ use crate::session::Session;
 use catalogue::{CatalogueBuf, NamesFound};
 use keys::{NameRefusal, SortKeys};
 use std::alloc::{AllocError, Global};
-use table::{Letter, Pair, Refusal, Table, TableBuf};
+use table::{Letter, Long, LongRun, Pair, Refusal, Table, TableBuf};
 use texts::{Command, Entry, Fault, Line, without_return};
 
 // How many numbers a letter may have.
@@ -38,6 +39,7 @@ impl Session {
     pub fn table(&self) -> Table<'_>
         ensures rules { rules_of result ≡ held_rules self.now.book }
         ensures pairs { pairs_of result ≡ buffer_pairs self.now.book.table }
+        ensures longs { longs_of result ≡ buffer_longs self.now.book.table }
         ensures valleys { self.now.own ≡ false → rules_of result ≡ in_utf8 valley }
     {
         self.book.table()
@@ -89,6 +91,10 @@ impl Session {
                 self.join(heap, pair)?;
                 Ok(Answer::Nothing)
             }
+            Line::Says(Command::Enter(Entry::Long(long))) => {
+                self.join_long(heap, long)?;
+                Ok(Answer::Nothing)
+            }
             Line::Says(Command::Find(ask)) => {
                 self.prepare(heap, ask)?;
                 Ok(Answer::Find(ask))
@@ -132,6 +138,21 @@ impl Session {
         Ok(())
     }
 
+    // One run of three or four letters more. What is turned away changes nothing.
+    fn join_long(&mut self, heap: Global, long: Long) -> Result<(), TakeError>
+        ensures { JoinedLong self.old long result self.new }
+    {
+        if self.own {
+            self.book.add_long(long)?;
+        } else {
+            let mut table = TableBuf::in_utf8(heap)?;
+            table.add_long(long)?;
+            self.begin(table);
+        }
+        mark_run(&mut self.named, long.run);
+        Ok(())
+    }
+
     // The first line of a table has been taken: the table is that of the lines, and no letter is named yet.
     fn begin(&mut self, table: TableBuf)
         requires { (buffer_rules table).utf8 ≡ true }
@@ -150,6 +171,18 @@ impl Session {
             return Err(TakeError::Refused(Fault::Question(why)));
         }
         Ok(self.put_in_order(heap)?)
+    }
+}
+
+// The letters of a longer run are named.
+fn mark_run(named: &mut [bool], run: LongRun)
+    ensures { named.new ≡ all_named named.old (long_letters run) }
+{
+    mark(named, run.first);
+    mark(named, run.second);
+    mark(named, run.third);
+    if let Some(fourth) = run.fourth {
+        mark(named, fourth);
     }
 }
 

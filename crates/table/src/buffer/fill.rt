@@ -1,43 +1,46 @@
 // Filling a table and lending it.
 ghost use Rattle.std.specs.Prelude.{◌≡◌, [], ◌∷◌, IfOk, None, false, length, true};
-ghost use Rattle.table.specs.Buffer.{Added, LetterAdded, LetterWritten, PairWritten, buffer_count, buffer_letters, buffer_pairs, buffer_rules, is_letter_of, letter_refusal, pair_refusal};
-ghost use Rattle.table.specs.Meaning.{pairs_of, rules_of};
+ghost use Rattle.table.specs.Buffer.{Added, EntryIn, LetterIn, LongIn, PairIn, Written, buffer_letters, buffer_longs, buffer_pairs, buffer_rules, buffer_runs, is_letter_of, letter_refusal, long_refusal, pair_refusal};
+ghost use Rattle.table.specs.Meaning.{longs_of, pairs_of, rules_of};
 ghost use Rattle.table.specs.Refusals.{verdict};
-ghost use Rattle.table.specs.Rules.{counts, letter_weighs, no_rules};
+ghost use Rattle.table.specs.Rules.{letter_weighs, no_rules};
+ghost use Rattle.pieces.specs.Runs.{counts};
 
 use crate::buffer::TableBuf;
 use crate::fault::{AddError, Refusal};
-use crate::layout::{numbers_of, set_weights, unknown, weights_at};
-use crate::others::{letter_weights, place_for};
+use crate::layout::{numbers_of, set_weights, unknown, unknown_long, weights_at};
+use crate::marks::begins_of;
+use crate::others::letter_weights;
 use crate::pairs::Pairs;
-use crate::piece::{Letter, Pair, Weights};
 use crate::view::Table;
+use pieces::{Letter, Long, Pair, Weights, find_long, place_for};
 use std::alloc::{AllocError, Global};
 use utf8::is_letter;
 
 impl TableBuf {
-    // A table of bytes: no letter weighs anything, and no pair is one.
+    // A table of bytes: no letter weighs anything, and no letters are one.
     pub fn new(heap: Global) -> Result<TableBuf, AllocError>
-        ensures { IfOk result (λ b. (buffer_rules b ≡ no_rules false) × (buffer_pairs b ≡ []) × (buffer_letters b ≡ 0)) }
+        ensures { IfOk result (λ b. (buffer_rules b ≡ no_rules false) × (buffer_pairs b ≡ []) × (buffer_longs b ≡ []) × (buffer_letters b ≡ 0)) }
     {
         TableBuf::blank(false, heap)
     }
 
     // The same of names in UTF-8.
     pub fn in_utf8(heap: Global) -> Result<TableBuf, AllocError>
-        ensures { IfOk result (λ b. (buffer_rules b ≡ no_rules true) × (buffer_pairs b ≡ []) × (buffer_letters b ≡ 0)) }
+        ensures { IfOk result (λ b. (buffer_rules b ≡ no_rules true) × (buffer_pairs b ≡ []) × (buffer_longs b ≡ []) × (buffer_letters b ≡ 0)) }
     {
         TableBuf::blank(true, heap)
     }
 
     fn blank(utf8: bool, heap: Global) -> Result<TableBuf, AllocError>
-        ensures { IfOk result (λ b. (buffer_rules b ≡ no_rules utf8) × (buffer_pairs b ≡ []) × (buffer_letters b ≡ 0)) }
+        ensures { IfOk result (λ b. (buffer_rules b ≡ no_rules utf8) × (buffer_pairs b ≡ []) × (buffer_longs b ≡ []) × (buffer_letters b ≡ 0)) }
     {
         let letters = vec![in heap; 0; 3 * Table::LETTERS]?;
         Ok(TableBuf {
             letters,
             others: Vec::new(heap),
             pairs: Vec::new(heap),
+            longs: Vec::new(heap),
             utf8,
         })
     }
@@ -51,7 +54,7 @@ impl TableBuf {
 
     // One letter more. An entry that weighs nothing is as if it weren't there.
     pub fn add_letter(&mut self, entry: Letter) -> Result<(), AddError>
-        ensures { LetterAdded self.old entry result self.new }
+        ensures { Added (letter_refusal (buffer_rules self.old) (buffer_letters self.old) entry) (EntryIn self.old entry) self.old result self.new }
     {
         self.allows_letter(entry)?;
         if entry.weights.counts() {
@@ -65,13 +68,13 @@ impl TableBuf {
         requires counts { counts entry.weights ≡ true }
         requires letter { is_letter_of self.old.utf8 entry.letter ≡ true }
         requires free { counts (letter_weighs self.old.letters.items self.old.others.items entry.letter) ≡ false }
-        ensures { LetterWritten self.old entry result self.new }
+        ensures { Written (LetterIn self.old entry) self.old result self.new }
     {
         if entry.letter < 256 {
             set_weights(&mut self.letters, 3 * entry.letter as usize, entry.weights);
             return Ok(());
         }
-        let place = place_for(self.others.as_slice(), entry.letter);
+        let place = place_for(self.others.as_slice(), entry.letter as u64);
         self.others.insert(place, entry)?;
         Ok(())
     }
@@ -119,7 +122,7 @@ impl TableBuf {
 
     // One pair more, behind the others.
     pub fn add_pair(&mut self, pair: Pair) -> Result<(), AddError>
-        ensures { Added self.old pair result self.new }
+        ensures { Added (pair_refusal (buffer_rules self.old) (buffer_runs self.old) pair) (PairIn self.old pair) self.old result self.new }
     {
         self.allows(pair)?;
         self.write_pair(pair)?;
@@ -128,8 +131,8 @@ impl TableBuf {
 
     // The numbers of a pair that is not refused are written.
     pub(crate) fn write_pair(&mut self, pair: Pair) -> Result<(), AllocError>
-        requires { pair_refusal (buffer_rules self.old) (length (buffer_pairs self.old)) pair ≡ None }
-        ensures { PairWritten self.old pair result self.new }
+        requires { pair_refusal (buffer_rules self.old) (buffer_runs self.old) pair ≡ None }
+        ensures { Written (PairIn self.old pair) self.old result self.new }
     {
         self.pairs.extend_from_slice(&numbers_of(pair))?;
         Ok(())
@@ -137,10 +140,10 @@ impl TableBuf {
 
     // Whether one pair more would be taken, if there is memory; else why not.
     pub fn allows(&self, pair: Pair) -> Result<(), Refusal>
-        ensures { result ≡ verdict (pair_refusal (buffer_rules self.now) (length (buffer_pairs self.now)) pair) }
+        ensures { result ≡ verdict (pair_refusal (buffer_rules self.now) (buffer_runs self.now) pair) }
     {
-        let place = self.pair_count();
-        if place >= Table::MAX_PAIRS {
+        let place = self.run_count();
+        if place >= Table::MAX_RUNS {
             return Err(Refusal::TooMany);
         }
         if unknown(self.utf8, pair.first, pair.second) {
@@ -152,25 +155,65 @@ impl TableBuf {
         Ok(())
     }
 
-    // How many pairs have been added.
-    fn pair_count(&self) -> usize
-        ensures numbers { result ≡ buffer_count self.now }
-        ensures pairs { result ≡ length (buffer_pairs self.now) }
+    // One run of three or four letters more.
+    pub fn add_long(&mut self, long: Long) -> Result<(), AddError>
+        ensures { Added (long_refusal (buffer_rules self.old) (buffer_runs self.old) long) (LongIn self.old long) self.old result self.new }
     {
-        self.pairs.len() / 5
+        self.allows_long(long)?;
+        self.write_long(long)?;
+        Ok(())
+    }
+
+    // A run of three or four letters that is not refused is written at its place among the others.
+    pub(crate) fn write_long(&mut self, long: Long) -> Result<(), AllocError>
+        requires { long_refusal (buffer_rules self.old) (buffer_runs self.old) long ≡ None }
+        ensures { Written (LongIn self.old long) self.old result self.new }
+    {
+        let place = place_for(self.longs.as_slice(), long.run.rank());
+        self.longs.insert(place, long)?;
+        Ok(())
+    }
+
+    // Whether one run of three or four letters more would be taken, if there is memory; else why not.
+    pub fn allows_long(&self, long: Long) -> Result<(), Refusal>
+        ensures { result ≡ verdict (long_refusal (buffer_rules self.now) (buffer_runs self.now) long) }
+    {
+        let place = self.run_count();
+        if place >= Table::MAX_RUNS {
+            return Err(Refusal::TooMany);
+        }
+        if unknown_long(self.utf8, long.run) {
+            return Err(Refusal::Foreign(place));
+        }
+        if find_long(self.longs.as_slice(), long.run).is_some() {
+            return Err(Refusal::Twice(place));
+        }
+        Ok(())
+    }
+
+    // How many runs have been added.
+    fn run_count(&self) -> usize
+        ensures { result ≡ buffer_runs self.now }
+    {
+        self.pairs.len() / 5 + self.longs.len()
     }
 
     // The numbers as a table.
     pub fn table(&self) -> Table<'_>
         ensures rules { rules_of result ≡ buffer_rules self.now }
         ensures pairs { pairs_of result ≡ buffer_pairs self.now }
+        ensures longs { longs_of result ≡ buffer_longs self.now }
     {
         let mut pairs = Pairs::new(self.pairs.as_slice());
         pairs.chain().unwrap();
+        let longs = self.longs.as_slice();
+        let begins = begins_of(&pairs, longs);
         Table {
             letters: self.letters.as_slice(),
             others: self.others.as_slice(),
             pairs,
+            longs,
+            begins,
             utf8: self.utf8,
         }
     }

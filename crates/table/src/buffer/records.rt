@@ -1,50 +1,74 @@
 // Lent records as a table of names in UTF-8: they are looked through before any memory is asked for.
-ghost use Rattle.std.specs.Prelude.{◌≡◌, [], ◌==◌, ◌&&◌, IfOk, None, true};
-ghost use Rattle.std.specs.List.{list_any};
-ghost use Rattle.table.specs.Buffer.{buffer_pairs};
-ghost use Rattle.table.specs.Records.{MadeOf, Says, first_refusal, foreign_record, letter_record, letter_told, letters_refusal, many_weighing, pairs_refusal, twice_record};
-ghost use Rattle.table.specs.Refusals.{verdict};
-ghost use Rattle.table.specs.Rules.{counts};
+ghost use Rattle.std.specs.Prelude.{◌≡◌, ◌≤◌, [], IfOk, None, length, true};
+ghost use Rattle.table.specs.Buffer.{buffer_rules, buffer_runs};
+ghost use Rattle.table.specs.Records.{IsFree, MadeOf, RunIn, Says, first_refusal, foreign_record, is_told, length_record, letter_record, letter_told, letters_refusal, many_weighing, runs_refusal, twice_record};
+ghost use Rattle.table.specs.Refusals.{unknown_run, verdict};
+ghost use Rattle.pieces.specs.Runs.{counts};
 
 use crate::buffer::TableBuf;
 use crate::fault::{AddError, Refusal};
-use crate::layout::unknown;
-use crate::piece::{Letter, Pair};
 use crate::view::Table;
+use pieces::{Letter, Long, LongRun, Pair, Run};
 use std::alloc::{AllocError, Global};
 use utf8::is_letter;
 
 impl TableBuf {
-    // Letters with what they weigh, in any order, and pairs, as a table of names in UTF-8. An entry that weighs nothing is as
-    // if it weren't there. Pairs are looked at before letters, and places are counted over all records.
-    pub fn of(letters: &[Letter], pairs: &[Pair], heap: Global) -> Result<TableBuf, AddError>
-        ensures { MadeOf letters.now pairs.now result }
+    // Letters with what they weigh, in any order, and runs, as a table of names in UTF-8. An entry that weighs nothing is as
+    // if it weren't there. Runs are looked at before letters, but for how many letters each has; and places are counted over all
+    // records.
+    pub fn of(letters: &[Letter], runs: &[Run<'_>], heap: Global) -> Result<TableBuf, AddError>
+        ensures { MadeOf letters.now runs.now result }
     {
-        check_pairs(pairs)?;
+        check_runs(runs)?;
         check_letters(letters)?;
+        all_fit(runs)?;
         let mut table = TableBuf::in_utf8(heap)?;
-        table.write_pairs(pairs)?;
-        table.write_letters(letters)?;
+        table.write_runs(runs)?;
+        table.write_letters(runs, letters)?;
         Ok(table)
     }
 
-    // Pairs of which none is refused are written into a blank table.
-    fn write_pairs(&mut self, pairs: &[Pair]) -> Result<(), AllocError>
+    // Runs of which none is refused are written into a blank table.
+    fn write_runs(&mut self, runs: &[Run<'_>]) -> Result<(), AllocError>
         requires blank { Says [] [] self.old }
-        requires pairs { pairs_refusal pairs.now ≡ None }
-        ensures { IfOk result (λ x. Says [] pairs.now self.new) }
+        requires runs { runs_refusal runs.now ≡ None }
+        requires fit { first_refusal length_record [] runs.now ≡ None }
+        ensures { IfOk result (λ x. Says [] runs.now self.new) }
     {
-        for pair in pairs {
-            self.write_pair(*pair)?;
+        for run in runs {
+            self.write_run(*run)?;
         }
         Ok(())
     }
 
-    // Letters of which none is refused are written into a table of pairs.
-    fn write_letters(&mut self, letters: &[Letter]) -> Result<(), AllocError>
-        requires blank { Says [] (buffer_pairs self.old) self.old }
+    // A run that is not refused is written, as a pair or as a longer one.
+    fn write_run(&mut self, run: Run<'_>) -> Result<(), AllocError>
+        requires free { IsFree (buffer_rules self.old) (buffer_runs self.old) run.letters.now }
+        requires fits { (2 ≤ length run.letters.now) × (length run.letters.now ≤ 4) }
+        ensures { IfOk result (λ x. RunIn self.old run.entry self.new) }
+    {
+        let Run { letters, weights } = run;
+        if letters.len() == 2 {
+            return self.write_pair(Pair {
+                first: letters[0],
+                second: letters[1],
+                weights,
+            });
+        }
+        let run = LongRun {
+            first: letters[0],
+            second: letters[1],
+            third: letters[2],
+            fourth: letters.get(3).copied(),
+        };
+        self.write_long(Long { run, weights })
+    }
+
+    // Letters of which none is refused are written into a table of runs.
+    fn write_letters(&mut self, runs: &[Run<'_>], letters: &[Letter]) -> Result<(), AllocError>
+        requires blank { Says [] runs.now self.old }
         requires letters { letters_refusal letters.now ≡ None }
-        ensures { IfOk result (λ x. Says letters.now (buffer_pairs self.old) self.new) }
+        ensures { IfOk result (λ x. Says letters.now runs.now self.new) }
     {
         for entry in letters {
             if entry.weights.counts() {
@@ -55,48 +79,65 @@ impl TableBuf {
     }
 }
 
-// Whether all pairs are taken.
-fn check_pairs(pairs: &[Pair]) -> Result<(), Refusal>
-    ensures { result ≡ verdict (pairs_refusal pairs.now) }
+// Whether all runs are taken, but for how many letters each has.
+fn check_runs(runs: &[Run<'_>]) -> Result<(), Refusal>
+    ensures { result ≡ verdict (runs_refusal runs.now) }
 {
-    if pairs.len() > Table::MAX_PAIRS {
+    if runs.len() > Table::MAX_RUNS {
         return Err(Refusal::TooMany);
     }
-    all_known(pairs)?;
-    all_apart(pairs)
+    all_known(runs)?;
+    all_apart(runs)
 }
 
-// Whether no pair has a letter above 65,535.
-fn all_known(pairs: &[Pair]) -> Result<(), Refusal>
-    ensures { result ≡ verdict (first_refusal foreign_record [] pairs.now) }
+// Whether no run has a letter above 65,535.
+fn all_known(runs: &[Run<'_>]) -> Result<(), Refusal>
+    ensures { result ≡ verdict (first_refusal foreign_record [] runs.now) }
 {
-    for (place, pair) in pairs.iter().enumerate() {
-        if unknown(true, pair.first, pair.second) {
+    for (place, run) in runs.iter().enumerate() {
+        if has_unknown(run.letters) {
             return Err(Refusal::Foreign(place));
         }
     }
     Ok(())
 }
 
-// Whether no pair equals an earlier one.
-fn all_apart(pairs: &[Pair]) -> Result<(), Refusal>
-    ensures { result ≡ verdict (first_refusal twice_record [] pairs.now) }
+// Whether one of the letters is above 65,535.
+fn has_unknown(letters: &[u32]) -> bool
+    ensures { result ≡ unknown_run true letters.now }
 {
-    for (place, pair) in pairs.iter().enumerate() {
-        if is_among(&pairs[0..place], pair.first, pair.second) {
+    letters.iter().any(|letter| *letter > 65535)
+}
+
+// Whether no run equals an earlier one.
+fn all_apart(runs: &[Run<'_>]) -> Result<(), Refusal>
+    ensures { result ≡ verdict (first_refusal twice_record [] runs.now) }
+{
+    for (place, run) in runs.iter().enumerate() {
+        if is_among(&runs[0..place], run.letters) {
             return Err(Refusal::Twice(place));
         }
     }
     Ok(())
 }
 
-// Whether one of the pairs is of these two letters.
-fn is_among(pairs: &[Pair], first: u32, second: u32) -> bool
-    ensures { result ≡ list_any (λ q. q.first == first && q.second == second) pairs.now }
+// Whether one of the runs is of these letters.
+fn is_among(runs: &[Run<'_>], letters: &[u32]) -> bool
+    ensures { result ≡ is_told runs.now letters.now }
 {
-    pairs
-        .iter()
-        .any(|pair| pair.first == first && pair.second == second)
+    runs.iter().any(|run| run.letters == letters)
+}
+
+// Whether each run has two, three or four letters.
+fn all_fit(runs: &[Run<'_>]) -> Result<(), Refusal>
+    ensures { result ≡ verdict (first_refusal length_record [] runs.now) }
+{
+    for (place, run) in runs.iter().enumerate() {
+        if run.letters.len() < 2 || run.letters.len() > 4 {
+            return Err(Refusal::RunLength(place));
+        }
+    }
+    Ok(())
 }
 
 // Whether all letters are taken.

@@ -2,12 +2,13 @@
 ghost use Rattle.std.specs.Prelude.{◌≡◌, ◌+◌, ◌*◌, ◌%◌, ◌<◌, IfSome};
 ghost use Rattle.std.specs.List.{slice_get};
 ghost use Rattle.std.specs.Option.{option_map};
-ghost use Rattle.table.specs.Chain.{begun, bucket};
-ghost use Rattle.table.specs.Numbers.{is_pair, pairs_in, place_in, weights_at};
+ghost use Rattle.table.specs.Chain.{begun, bucket, marks_of};
+ghost use Rattle.table.specs.Numbers.{is_pair, pairs_in, place_in};
+ghost use Rattle.pieces.specs.Runs.{weights_at};
 
 use crate::layout::{read_pair, weights_at};
 use crate::pairs::Pairs;
-use crate::piece::{Pair, Weights};
+use pieces::{Pair, Weights};
 
 impl<'a> Pairs<'a> {
     pub(crate) fn numbers(&self) -> &'a [u16]
@@ -39,6 +40,13 @@ impl<'a> Pairs<'a> {
     {
         let place = self.locate(first, second)?;
         Some(weights_at(self.numbers, 5 * place + 2))
+    }
+
+    // The marks of the pairs.
+    pub(crate) fn begins(&self) -> [bool; 256]
+        ensures { result ≡ marks_of self.now.numbers.now self.now.count }
+    {
+        self.begins
     }
 
     // Whether a pair may begin with this letter.

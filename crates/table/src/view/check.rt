@@ -5,13 +5,14 @@ ghost use Rattle.table.specs.Refusals.{first_place, foreign, shape_refusal, verd
 
 use crate::fault::Refusal;
 use crate::layout::unknown;
+use crate::marks::begins_of;
 use crate::pairs::Pairs;
 use crate::view::Table;
 
 impl<'a> Table<'a> {
     // Lent numbers as a table of bytes: three weights for each of the 256 letters, and five numbers for each of `how_many`
-    // pairs, two letters and their three weights. They are taken one by one, and not as a struct, as `make_key` hands
-    // them on from callers who know tables by numbers alone.
+    // pairs, two letters and their three weights. It has no longer runs. The numbers are taken one by one, and not as a
+    // struct, as `make_key` hands them on from callers who know tables by numbers alone.
     pub fn check(letters: &'a [u16], pairs: &'a [u16], how_many: u64) -> Result<Table<'a>, Refusal>
         ensures { Checked letters.now pairs.now how_many result }
     {
@@ -21,10 +22,13 @@ impl<'a> Table<'a> {
         }
         let mut pairs = Pairs::new(pairs);
         pairs.chain()?;
+        let begins = begins_of(&pairs, &[]);
         Ok(Table {
             letters,
             others: &[],
             pairs,
+            longs: &[],
+            begins,
             utf8: false,
         })
     }
@@ -40,7 +44,7 @@ fn check_shape(letters: usize, pairs: usize, how_many: u64) -> Result<(), Refusa
     if pairs % 5 != 0 || (pairs / 5) as u64 != how_many {
         return Err(Refusal::Shape);
     }
-    if how_many > Table::MAX_PAIRS as u64 {
+    if how_many > Table::MAX_RUNS as u64 {
         return Err(Refusal::TooMany);
     }
     Ok(())

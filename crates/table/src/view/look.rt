@@ -1,21 +1,22 @@
 // Looking up what letters weigh.
 ghost use Rattle.std.specs.Prelude.{◌≡◌, ◌^◌, ◌<◌, ◌≤◌, false, [], ◌∷◌, length};
 ghost use Rattle.std.specs.List.{slice_get};
-ghost use Rattle.table.specs.Meaning.{letters_of, pairs_of, rules_of};
+ghost use Rattle.table.specs.Meaning.{letters_of, longs_of, pairs_of, rules_of, some_begins};
 ghost use Rattle.table.specs.Rules.{BeginsNone, contraction};
+ghost use Rattle.pieces.specs.Runs.{long_letters};
 
 use crate::layout::weights_at;
 use crate::others::letter_weights;
-use crate::piece::{Letter, Pair, Weights};
 use crate::view::Table;
+use pieces::{Letter, Long, LongRun, Pair, Weights, find_long};
 
 impl Table<'_> {
     // How many letters bytes are.
     pub const LETTERS: usize = 256;
     // The most letters that may weigh something.
     pub const MAX_LETTERS: usize = 2000;
-    // The most pairs that a table may have.
-    pub const MAX_PAIRS: usize = 200;
+    // The most runs that a table may have.
+    pub const MAX_RUNS: usize = 200;
     // The most letters that a name may have.
     pub const MAX_NAME: usize = 1000;
 
@@ -41,11 +42,21 @@ impl Table<'_> {
         self.pairs.weights(first, second)
     }
 
-    // Whether a pair may begin with this letter: where not, none does. Most letters need no further look.
-    pub fn may_begin(&self, letter: u32) -> bool
-        ensures { result ≡ false → BeginsNone (rules_of self.now) letter }
+    // What three or four letters weigh together, where they are one. No others are looked at than those with the same first
+    // letter.
+    pub fn long(&self, run: LongRun) -> Option<Weights>
+        ensures { result ≡ contraction (rules_of self.now) (long_letters run) }
     {
-        self.pairs.may_begin(letter)
+        find_long(self.longs, run)
+    }
+
+    // Whether a run begins with a letter that has the same remainder by 256. Where not, none begins with this one: most letters
+    // need no further look.
+    pub fn may_begin(&self, letter: u32) -> bool
+        ensures says { result ≡ some_begins (pairs_of self.now) (longs_of self.now) letter }
+        ensures none { result ≡ false → BeginsNone (rules_of self.now) letter }
+    {
+        self.begins[(letter % 256) as usize]
     }
 
     // How many letters are listed: those below 256, and those that have an entry.
@@ -86,5 +97,20 @@ impl Table<'_> {
         ensures { result ≡ slice_get (pairs_of self.now) place }
     {
         self.pairs.get(place)
+    }
+
+    // How many runs of three and four letters there are.
+    pub fn long_count(&self) -> usize
+        ensures count { result ≡ length (longs_of self.now) }
+        ensures few { result ≤ 200 }
+    {
+        self.longs.len()
+    }
+
+    // The longer run at a place, counted from 0.
+    pub fn long_at(&self, place: usize) -> Option<Long>
+        ensures { result ≡ slice_get (longs_of self.now) place }
+    {
+        self.longs.get(place).copied()
     }
 }

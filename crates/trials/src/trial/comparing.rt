@@ -1,7 +1,7 @@
 // Names compared, and where they stand to what is asked.
 use crate::dice::Dice;
 use crate::drawn;
-use crate::plain::{Name, begins, compare};
+use crate::named::{Name, begins, compare};
 use crate::report::{Kind, Report};
 use crate::trial::Both;
 use order::{Collate, Standing};

@@ -1,7 +1,8 @@
-// Tables that are none.
+// Lent numbers that are none of a table.
 use crate::alphabet::Alphabet;
 use crate::dice::Dice;
 use crate::drawn::{self, Scale};
+use crate::joined::Joined;
 use crate::lists::{Lists, in_order};
 use crate::plain::Plain;
 use crate::report::{Kind, Report};
@@ -20,6 +21,7 @@ pub(crate) fn run(
     let letters = drawn::names(heap, dice, both.alphabet, 8)?;
     for _ in 0..12 {
         let mut plain = both.plain.copy(heap)?;
+        plain.longs.clear();
         for _ in 0..1 + dice.below(2) {
             damage(heap, dice, &mut plain)?;
         }
@@ -67,7 +69,7 @@ fn repeat(heap: Global, dice: &mut Dice, plain: &mut Plain) -> Result<(), AllocE
     let place = dice.below(plain.pair_count());
     if let Some(pair) = plain.pair_at(place) {
         let weights = Scale::new(dice).weights(dice);
-        plain.push_pair(pair.first, pair.second, weights)?;
+        plain.push_run(Joined::new(&[pair.first, pair.second], weights))?;
         if dice.once_in(2) {
             let other = dice.below(plain.pair_count());
             plain.drop_pair(heap, other)?;
@@ -82,9 +84,9 @@ fn fill_up(dice: &mut Dice, plain: &mut Plain) -> Result<(), AllocError> {
     let mut letter = dice.below(256) as u8;
     for _ in 0..600 {
         letter = letter.wrapping_add(1);
-        let second = dice.below(256) as u32;
-        if plain.pair_count() < most && plain.pair(letter as u32, second).is_none() {
-            plain.push_pair(letter as u32, second, [1, 2, 3])?;
+        let letters = [letter as u32, dice.below(256) as u32];
+        if plain.pair_count() < most && plain.run(&letters).is_none() {
+            plain.push_run(Joined::new(&letters, [1, 2, 3]))?;
         }
     }
     Ok(())

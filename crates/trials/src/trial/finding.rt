@@ -1,6 +1,7 @@
 // What is found in lists, checked once and checked each time.
 use crate::lists::{Lists, part};
-use crate::plain::{Name, Plain};
+use crate::named::Name;
+use crate::plain::Plain;
 use crate::report::{Kind, Report};
 use crate::trial::Both;
 use catalogue::{Catalogue, find, find_under};
@@ -86,7 +87,7 @@ fn found(catalogue: &Catalogue, question: &[u8], names: &[Name], numbers: &[u32]
     same && found.len() == numbers.len() && found.first(2).len() == numbers.len().min(2)
 }
 
-// The entry that takes all as lent numbers finds this part; it knows tables of bytes alone.
+// The entry that takes all as lent numbers finds this part; it knows tables of bytes alone, and no longer runs.
 pub(crate) fn ask_entry(
     heap: Global,
     plain: &Plain,
@@ -95,7 +96,7 @@ pub(crate) fn ask_entry(
     numbers: &[u32],
     report: &mut Report,
 ) -> Result<(), AllocError> {
-    if plain.utf8 {
+    if !plain.is_numbers() {
         return Ok(());
     }
     report.count(Kind::EntryAsked);

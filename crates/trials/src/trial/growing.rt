@@ -2,6 +2,7 @@
 use crate::alphabet::Alphabet;
 use crate::dice::Dice;
 use crate::drawn::{self, Drawn, Scale};
+use crate::joined::Joined;
 use crate::lists::{Lists, in_order};
 use crate::plain::Plain;
 use crate::reading;
@@ -11,7 +12,7 @@ use crate::trial::{Both, made};
 use catalogue::{CatalogueBuf, NotTaken, PushError};
 use keys::NameRefusal;
 use std::alloc::{AllocError, Global};
-use table::{AddError, Letter, Pair, Refusal, Table, Weights};
+use table::{AddError, Letter, Refusal, Table, Weights};
 
 // A book, and what it should hold.
 #[derive(Drop)]
@@ -37,6 +38,7 @@ pub(crate) fn run(
         alphabet: Alphabet {
             utf8: both.alphabet.utf8,
             letters: both.alphabet.letters.to_vec(heap)?,
+            longs: both.alphabet.longs.to_vec(heap)?,
         },
         in_order: false,
     };
@@ -54,7 +56,7 @@ pub(crate) fn run(
 }
 
 impl Grown {
-    // A name, a letter or a pair more, another table, now and then one that reads names otherwise, or all names put in order and asked for.
+    // A name, a letter or a run more, another table, now and then one that reads names otherwise, or all names put in order and asked for.
     fn step(
         &mut self,
         heap: Global,
@@ -64,7 +66,7 @@ impl Grown {
     ) -> Result<(), AllocError> {
         match dice.below(16) {
             0..8 => self.push(heap, dice, report),
-            8 | 9 => self.add_pair(heap, dice, report),
+            8 | 9 => self.add_run(heap, dice, report),
             10 => self.add_letter(heap, dice, report),
             11 if dice.once_in(3) => self.set_table(heap, dice, may_turn, report),
             _ => {
@@ -113,42 +115,50 @@ impl Grown {
         Ok(())
     }
 
-    // One pair more, now and then one that a table can't have.
-    fn add_pair(
+    // One run more, now and then one that a table can't have.
+    fn add_run(
         &mut self,
         heap: Global,
         dice: &mut Dice,
         report: &mut Report,
     ) -> Result<(), AllocError> {
-        let weights = Scale::new(dice).weights(dice);
-        let mut pair = Pair {
-            first: self.alphabet.one(dice),
-            second: self.alphabet.one(dice),
-            weights: Weights::from(weights),
-        };
+        let mut letters = [0; 4];
+        for letter in letters.iter_mut() {
+            *letter = self.alphabet.one(dice);
+        }
         match dice.below(12) {
-            0 => pair.first = if self.plain.utf8 { 65536 } else { 256 },
-            1 => pair.second = 65535,
+            0 => letters[dice.below(4)] = if self.plain.utf8 { 65536 } else { 256 },
+            1 => letters[dice.below(4)] = 65535,
             _ => {}
         }
-        let refusal = self.plain.pair_refusal(pair.first, pair.second);
+        let many = 2 + dice.below(3);
+        let weights = Scale::new(dice).weights(dice);
+        let run = Joined::new(letters.get(..many).unwrap_or(&[]), weights);
+        let refusal = self.plain.run_refusal(run.letters());
         let wanted = match refusal {
             Some(why) => Err(AddError::Refused(why)),
             None => Ok(()),
         };
-        let told = self.book.add_pair(pair);
+        let told = match (run.pair(), run.long()) {
+            (Some(pair), _) => self.book.add_pair(pair),
+            (None, Some(long)) => self.book.add_long(long),
+            (None, None) => wanted,
+        };
         if told != wanted {
-            let what = format!(in heap; "add_pair {pair:?}: {told:?}, plainly {wanted:?}")?;
+            let what = format!(in heap; "a run more, {run}: {told:?}, plainly {wanted:?}")?;
             report.differ(&self.plain, what)?;
         }
         report.count(match refusal {
-            Some(Refusal::TooMany) => Kind::PairsTooMany,
-            Some(Refusal::Foreign(_)) => Kind::PairsForeign,
-            Some(_) => Kind::PairsTwice,
-            None => Kind::PairsAdded,
+            Some(Refusal::TooMany) => Kind::RunsTooMany,
+            Some(Refusal::Foreign(_)) => Kind::RunsForeign,
+            Some(_) => Kind::RunsTwice,
+            None => Kind::RunsAdded,
         });
         if refusal.is_none() {
-            self.plain.push_pair(pair.first, pair.second, weights)?;
+            self.plain.push_run(run)?;
+            if run.long().is_some() {
+                self.alphabet.longs.push(run)?;
+            }
             self.in_order = false;
         }
         Ok(())

@@ -1,7 +1,8 @@
 // Sort keys of names: measured, written into rooms of all sizes, and made.
 use crate::dice::Dice;
 use crate::drawn;
-use crate::plain::{Name, Plain};
+use crate::named::Name;
+use crate::plain::Plain;
 use crate::report::{Kind, Report};
 use crate::trial::Both;
 use keys::{Done, KeyError, KeyNumbers, NameRefusal, Short, SortKeys, make_key};
@@ -36,7 +37,7 @@ pub(crate) fn run(
             letters.len().saturating_mul(3).saturating_add(2),
         ] {
             try_wide(heap, both, &name, size, report)?;
-            if !both.plain.utf8 {
+            if both.plain.is_numbers() {
                 try_entry(heap, both.plain, true, &name, size, report)?;
             }
         }
@@ -68,6 +69,9 @@ fn try_key(heap: Global, both: &Both, name: &Name, report: &mut Report) -> Resul
     report.count(Kind::Keys);
     if name.row.is_empty() {
         report.count(Kind::KeysWithoutFirst);
+    }
+    if name.longest > 2 {
+        report.count(Kind::KeysOfLonger);
     }
     let told = both.table.key_len(letters);
     if told != needs {

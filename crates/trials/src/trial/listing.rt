@@ -2,7 +2,7 @@
 use crate::dice::Dice;
 use crate::drawn;
 use crate::lists::{Lists, in_order, number};
-use crate::plain::Name;
+use crate::named::Name;
 use crate::report::{Kind, Report};
 use crate::trial::Both;
 use crate::trial::finding::{Listed, ask};

@@ -1,20 +1,12 @@
 // Tables of names in UTF-8 made of records: all at once, and step by step.
-use crate::alphabet::{Alphabet, any_letter};
 use crate::dice::Dice;
-use crate::drawn::Scale;
+use crate::joined::{Joined, lent};
 use crate::plain::Plain;
-use crate::reading;
 use crate::report::{Kind, Report};
 use crate::trial::Both;
+use crate::trial::records::Records;
 use std::alloc::{AllocError, Global};
-use table::{AddError, Letter, Pair, Refusal, Table, TableBuf, Weights};
-
-// Letters and pairs, as they are handed over; they need not be those of a table.
-#[derive(Drop)]
-struct Records {
-    letters: Vec<Letter>,
-    pairs: Vec<Pair>,
-}
+use table::{AddError, Letter, Refusal, Table, TableBuf, Weights};
 
 pub(crate) fn run(
     heap: Global,
@@ -25,7 +17,7 @@ pub(crate) fn run(
     for _ in 0..4 {
         let mut records = Records {
             letters: both.plain.listed(heap)?,
-            pairs: both.plain.listed_pairs(heap)?,
+            runs: both.plain.listed_runs(heap)?,
         };
         records.shuffle(dice);
         for _ in 0..dice.below(4) {
@@ -35,147 +27,6 @@ pub(crate) fn run(
         try_steps(heap, both.plain, &records, report)?;
     }
     Ok(())
-}
-
-impl Records {
-    // Another order of the letters.
-    fn shuffle(&mut self, dice: &mut Dice) {
-        for place in 0..self.letters.len() {
-            let other = dice.below(self.letters.len());
-            if other < self.letters.len() {
-                self.letters.swap(place, other);
-            }
-        }
-    }
-
-    // More records, which a table may have or not.
-    fn damage(&mut self, dice: &mut Dice, alphabet: &Alphabet) -> Result<(), AllocError> {
-        let weights = Weights::from(Scale::new(dice).weights(dice));
-        let (one, other) = (alphabet.one(dice), alphabet.one(dice));
-        let any = any_letter(dice, true);
-        match dice.below(9) {
-            0 => {
-                let surrogate = 0xd800 + dice.below(0x800) as u32;
-                self.push(dice, surrogate, weights)
-            }
-            1 => {
-                let large = 0x10000 + dice.below(0x10000) as u32;
-                self.push(dice, large, weights)
-            }
-            2 => self.push(dice, any, Weights::from([0; 3])),
-            3 => self.push(dice, one, weights),
-            4 => self.push(dice, any, weights),
-            5 => self.fill(dice),
-            6 => self.push_pair(one, other, weights),
-            7 => {
-                let (first, second) = match dice.below(4) {
-                    0 => (65536, one),
-                    1 => (one, u32::MAX),
-                    2 => (0xd800, 65535),
-                    _ => (one, 0xdfff),
-                };
-                self.push_pair(first, second, weights)
-            }
-            _ => {
-                for _ in 0..195 + dice.below(10) {
-                    let first = any_letter(dice, true);
-                    self.push_pair(first, any_letter(dice, true), weights)?;
-                }
-                Ok(())
-            }
-        }
-    }
-
-    // A letter more, somewhere between the others.
-    fn push(&mut self, dice: &mut Dice, letter: u32, weights: Weights) -> Result<(), AllocError> {
-        let place = dice.below(self.letters.len());
-        let entry = Letter { letter, weights };
-        self.letters.insert(place.min(self.letters.len()), entry)?;
-        Ok(())
-    }
-
-    fn push_pair(&mut self, first: u32, second: u32, weights: Weights) -> Result<(), AllocError> {
-        self.pairs.push(Pair {
-            first,
-            second,
-            weights,
-        })?;
-        Ok(())
-    }
-
-    // As many letters as there may be, or one more or less; now and then there are some that were there already.
-    fn fill(&mut self, dice: &mut Dice) -> Result<(), AllocError> {
-        let most = 1999 + dice.below(3);
-        let mut many = 0usize;
-        for entry in &self.letters {
-            if entry.weights != Weights::from([0; 3]) {
-                many = many.saturating_add(1);
-            }
-        }
-        let first = dice.below(40000) as u32;
-        for letter in first..first + 2001 {
-            if many < most {
-                self.letters.push(Letter {
-                    letter,
-                    weights: Weights::from([1, 2, 3]),
-                })?;
-                many = many.saturating_add(1);
-            }
-        }
-        Ok(())
-    }
-
-    // Why they are not those of a table: pairs come first, then how many letters weigh something, then which.
-    fn refusal(&self, heap: Global) -> Result<Option<Refusal>, AllocError> {
-        if let Some(why) = pairs_refusal(&self.pairs) {
-            return Ok(Some(why));
-        }
-        let mut many = 0usize;
-        let mut fault = None;
-        let mut seen = vec![in heap; false; 65536]?;
-        for (place, entry) in self.letters.iter().enumerate() {
-            if entry.weights == Weights::from([0; 3]) {
-                continue;
-            }
-            many = many.saturating_add(1);
-            let why = match seen.get_mut(entry.letter as usize) {
-                Some(mark) if reading::is_letter(true, entry.letter) => {
-                    let again = *mark;
-                    *mark = true;
-                    again.then_some(Refusal::LetterTwice(place))
-                }
-                _ => Some(Refusal::NoLetter(place)),
-            };
-            if fault.is_none() {
-                fault = why;
-            }
-        }
-        Ok(if many > 2000 {
-            Some(Refusal::TooManyLetters)
-        } else {
-            fault
-        })
-    }
-}
-
-// Why pairs are not those of a table.
-fn pairs_refusal(pairs: &[Pair]) -> Option<Refusal> {
-    if pairs.len() > 200 {
-        return Some(Refusal::TooMany);
-    }
-    for (place, pair) in pairs.iter().enumerate() {
-        if pair.first > 65535 || pair.second > 65535 {
-            return Some(Refusal::Foreign(place));
-        }
-    }
-    for (place, pair) in pairs.iter().enumerate() {
-        for earlier in pairs.iter().take(place) {
-            if earlier.first == pair.first && earlier.second == pair.second {
-                return Some(Refusal::Twice(place));
-            }
-        }
-    }
-    None
 }
 
 // All at once: the table, or why there is none.
@@ -192,14 +43,15 @@ fn try_at_once(
         Some(Refusal::Twice(_)) => Kind::NoTableTwice,
         Some(Refusal::TooManyLetters) => Kind::NoTableTooManyLetters,
         Some(Refusal::LetterTwice(_)) => Kind::NoTableLetterTwice,
+        Some(Refusal::RunLength(_)) => Kind::NoTableRunLength,
         Some(_) => Kind::NoTableNoLetter,
         None => Kind::TablesUnharmed,
     });
-    match TableBuf::of(&records.letters, &records.pairs, heap) {
+    match TableBuf::of(&records.letters, &lent(heap, &records.runs)?, heap) {
         Ok(own) if refusal.is_none() => {
             let mut wanted = Plain::new(heap, true)?;
-            for pair in &records.pairs {
-                push_pair(&mut wanted, *pair)?;
+            for run in &records.runs {
+                wanted.push_run(*run)?;
             }
             for entry in &records.letters {
                 set_letter(&mut wanted, *entry);
@@ -225,18 +77,20 @@ fn try_steps(
     let mut wanted = Plain::new(heap, true)?;
     match TableBuf::in_utf8(heap) {
         Ok(mut own) => {
-            for pair in &records.pairs {
-                let refusal = wanted.pair_refusal(pair.first, pair.second);
-                let told = own.add_pair(*pair);
+            for run in &records.runs {
+                let refusal = wanted.run_refusal(run.letters());
+                let Some(told) = add_run(&mut own, run) else {
+                    continue;
+                };
                 report.count(match refusal {
-                    Some(Refusal::TooMany) => Kind::PairsTooMany,
-                    Some(Refusal::Foreign(_)) => Kind::PairsForeign,
-                    Some(_) => Kind::PairsTwice,
-                    None => Kind::PairsAdded,
+                    Some(Refusal::TooMany) => Kind::RunsTooMany,
+                    Some(Refusal::Foreign(_)) => Kind::RunsForeign,
+                    Some(_) => Kind::RunsTwice,
+                    None => Kind::RunsAdded,
                 });
                 try_answer(heap, plain, told, refusal, report)?;
                 if refusal.is_none() {
-                    push_pair(&mut wanted, *pair)?;
+                    wanted.push_run(*run)?;
                 }
             }
             let mut many = 0usize;
@@ -259,6 +113,15 @@ fn try_steps(
             try_same(heap, &wanted, &own.table(), report)
         }
         Err(_) => report.differ(plain, format!(in heap; "no memory for a table")?),
+    }
+}
+
+// What is answered where a run is added; nothing where it is too short or too long.
+fn add_run(own: &mut TableBuf, run: &Joined) -> Option<Result<(), AddError>> {
+    match (run.pair(), run.long()) {
+        (Some(pair), _) => Some(own.add_pair(pair)),
+        (None, Some(long)) => Some(own.add_long(long)),
+        (None, None) => None,
     }
 }
 
@@ -288,26 +151,24 @@ fn try_same(
     report: &mut Report,
 ) -> Result<(), AllocError> {
     let letters = wanted.listed(heap)?;
-    let pairs = wanted.listed_pairs(heap)?;
     let same = table.utf8()
         && table.letter_count() == letters.len()
-        && table.pair_count() == pairs.len()
+        && table.pair_count() == wanted.pair_count()
+        && table.long_count() == wanted.longs.len()
         && letters
             .iter()
             .enumerate()
             .all(|(place, entry)| table.letter_at(place) == Some(*entry))
-        && pairs
+        && (0..wanted.pair_count()).all(|place| table.pair_at(place) == wanted.pair_at(place))
+        && wanted
+            .longs
             .iter()
-            .enumerate()
-            .all(|(place, pair)| table.pair_at(place) == Some(*pair));
+            .filter_map(|run| run.long())
+            .all(|long| table.long(long.run) == Some(long.weights));
     if !same {
         report.differ(wanted, format!(in heap; "a table of records")?)?;
     }
     Ok(())
-}
-
-fn push_pair(plain: &mut Plain, pair: Pair) -> Result<(), AllocError> {
-    plain.push_pair(pair.first, pair.second, numbers(pair.weights))
 }
 
 fn set_letter(plain: &mut Plain, entry: Letter) {

@@ -1,13 +1,15 @@
 // Newer tables, and what they keep of older ones.
-use crate::alphabet::Alphabet;
+use crate::alphabet::{Alphabet, Spelling};
 use crate::dice::Dice;
-use crate::drawn::{self, Drawn, Scale};
-use crate::plain::{Plain, compare};
+use crate::drawn::{Drawn, Scale, add_run};
+use crate::joined::Joined;
+use crate::named::compare;
+use crate::plain::Plain;
 use crate::reading;
 use crate::report::{Kind, Report};
+use crate::trial::changed::{are_old, has_changed, is_old, keeps};
 use crate::trial::{Both, made};
-use keys::Level;
-use order::{Change, Collate, Piece, keeps_order};
+use order::{Change, Collate, keeps_order};
 use std::alloc::{AllocError, Global};
 use table::Table;
 
@@ -42,6 +44,7 @@ pub(crate) fn run(
     let letters = Alphabet {
         utf8: both.plain.utf8,
         letters,
+        longs: old_longs(heap, both.plain, &old)?,
     };
     for _ in 0..5 {
         let newer = renewed(heap, dice, both, &old)?;
@@ -63,7 +66,7 @@ pub(crate) fn run(
     Ok(())
 }
 
-// A table made of another: on another scale, with new letters and pairs, with one weight or one pair changed, or drawn anew.
+// A table made of another: on another scale, with new letters and runs, with one weight or one run changed, or drawn anew.
 fn renewed(heap: Global, dice: &mut Dice, both: &Both, old: &[bool]) -> Result<Plain, AllocError> {
     let mut newer = both.plain.copy(heap)?;
     let is_full = newer.letter_count() > 1990;
@@ -78,7 +81,7 @@ fn renewed(heap: Global, dice: &mut Dice, both: &Both, old: &[bool]) -> Result<P
             let weights = Scale::new(dice).weights(dice);
             newer.set_letter(both.alphabet.one(dice), weights);
         }
-        8 => change_pairs(heap, dice, &mut newer, both.alphabet)?,
+        8 => change_runs(heap, dice, &mut newer, both.alphabet)?,
         _ if both.plain.utf8 && dice.once_in(2) => newer = Drawn::in_utf8(heap, dice)?.plain,
         _ => newer = Drawn::new(heap, dice)?.plain,
     }
@@ -99,6 +102,13 @@ fn rescale(dice: &mut Dice, newer: &mut Plain) {
             *number = number.saturating_mul(factor).saturating_add(more);
         }
     }
+    for run in newer.longs.iter_mut() {
+        for number in run.weights.iter_mut() {
+            if *number != 0 {
+                *number = number.saturating_mul(factor).saturating_add(more);
+            }
+        }
+    }
 }
 
 // New letters weigh something else, and are one with others.
@@ -111,165 +121,60 @@ fn add_new(
     for _ in 0..6 {
         let scale = Scale::new(dice);
         let letter = alphabet.any(dice);
-        let other = alphabet.any(dice);
         if !is_old(old, letter) {
             newer.set_letter(letter, scale.weights(dice));
-            let (first, second) = if dice.once_in(2) {
-                (letter, other)
-            } else {
-                (other, letter)
-            };
-            if newer.pair(first, second).is_none() && newer.pair_count() < 200 {
-                newer.push_pair(first, second, scale.weights(dice))?;
+            let mut letters = [
+                alphabet.any(dice),
+                alphabet.one(dice),
+                alphabet.one(dice),
+                letter,
+            ];
+            let at = dice.below(4);
+            letters.swap(at, 3);
+            let many = 2 + dice.below(3);
+            let run = letters.get(..many).unwrap_or(&[]);
+            if run.contains(&letter) {
+                add_run(dice, newer, run, scale)?;
             }
         }
     }
     Ok(())
 }
 
-// One pair less, or one more, or one less and one more.
-fn change_pairs(
+// One run less, or one more, or one less and one more.
+fn change_runs(
     heap: Global,
     dice: &mut Dice,
     newer: &mut Plain,
     alphabet: &Alphabet,
 ) -> Result<(), AllocError> {
     if dice.once_in(2) {
-        let place = dice.below(newer.pair_count());
-        newer.drop_pair(heap, place)?;
+        let place = dice.below(newer.run_count());
+        newer.drop_run(heap, place)?;
     }
-    let (first, second) = (alphabet.one(dice), alphabet.one(dice));
-    if dice.once_in(2) && newer.pair(first, second).is_none() && newer.pair_count() < 200 {
-        let weights = Scale::new(dice).weights(dice);
-        newer.push_pair(first, second, weights)?;
+    if dice.once_in(2) {
+        let letters = [
+            alphabet.one(dice),
+            alphabet.one(dice),
+            alphabet.one(dice),
+            alphabet.one(dice),
+        ];
+        let many = 2 + dice.below(3);
+        let scale = Scale::new(dice);
+        add_run(dice, newer, letters.get(..many).unwrap_or(&[]), scale)?;
     }
     Ok(())
 }
 
-// A piece of old letters, and what it weighs before and now.
-#[derive(Clone, Copy)]
-struct Shift {
-    before: [u16; 3],
-    now: [u16; 3],
-}
-
-// The pairs of a table whose letters are both old.
-fn old_pairs(heap: Global, plain: &Plain, old: &[bool]) -> Result<Vec<(u32, u32)>, AllocError> {
-    let mut pairs = Vec::new(heap);
-    for pair in &plain.listed_pairs(heap)? {
-        if is_old(old, pair.first) && is_old(old, pair.second) {
-            pairs.push((pair.first, pair.second))?;
+// The longer runs of a table whose letters are all old.
+fn old_longs(heap: Global, plain: &Plain, old: &[bool]) -> Result<Vec<Joined>, AllocError> {
+    let mut longs = Vec::new(heap);
+    for run in &plain.longs {
+        if are_old(old, run.letters()) {
+            longs.push(*run)?;
         }
     }
-    Ok(pairs)
-}
-
-// The old pieces, or none where one of them is one in only one of the tables.
-fn weighed(
-    heap: Global,
-    older: &Plain,
-    newer: &Plain,
-    old: &[bool],
-) -> Result<Option<Vec<Shift>>, AllocError> {
-    let mut pieces = Vec::new(heap);
-    for (letter, mark) in (0..u32::MAX).zip(old) {
-        if *mark {
-            pieces.push(Shift {
-                before: older.letter(letter),
-                now: newer.letter(letter),
-            })?;
-        }
-    }
-    for (first, second) in old_pairs(heap, older, old)? {
-        match (older.pair(first, second), newer.pair(first, second)) {
-            (Some(before), Some(now)) => pieces.push(Shift { before, now })?,
-            _ => return Ok(None),
-        }
-    }
-    for (first, second) in old_pairs(heap, newer, old)? {
-        if older.pair(first, second).is_none() {
-            return Ok(None);
-        }
-    }
-    Ok(Some(pieces))
-}
-
-// Whether two pieces stand to each other as before, and weigh 0 where they did.
-fn stand_as_before(one: Shift, other: Shift) -> bool {
-    let levels = one.before.iter().zip(&one.now);
-    let others = other.before.iter().zip(&other.now);
-    levels.zip(others).all(|((a, b), (c, d))| a.cmp(c) == b.cmp(d) && (*a == 0) == (*b == 0))
-}
-
-// Whether the tests of a newer table hold, by each two of the old pieces.
-fn keeps(heap: Global, older: &Plain, newer: &Plain, old: &[bool]) -> Result<bool, AllocError> {
-    if older.utf8 != newer.utf8 {
-        return Ok(false);
-    }
-    let Some(pieces) = weighed(heap, older, newer, old)? else {
-        return Ok(false);
-    };
-    for one in &pieces {
-        for other in &pieces {
-            if !stand_as_before(*one, *other) {
-                return Ok(false);
-            }
-        }
-    }
-    Ok(true)
-}
-
-// What a piece weighs on a level; nothing where it is two letters that are not one, or not all its letters are old.
-fn weight(plain: &Plain, old: &[bool], piece: Piece, level: Level) -> Option<u16> {
-    let weights = match piece {
-        Piece::Letter(letter) if is_old(old, letter) => Some(plain.letter(letter)),
-        Piece::Pair(first, second) if is_old(old, first) && is_old(old, second) => plain.pair(
-            first, second,
-        ),
-        _ => None,
-    };
-    let [primary, secondary, tertiary] = weights?;
-    Some(match level {
-        Level::Primary => primary,
-        Level::Secondary => secondary,
-        Level::Tertiary => tertiary,
-    })
-}
-
-// Whether a letter is marked.
-fn is_old(old: &[bool], letter: u32) -> bool {
-    old.get(letter as usize) == Some(&true)
-}
-
-// Whether what is told has changed.
-fn has_changed(older: &Plain, newer: &Plain, old: &[bool], change: Change) -> bool {
-    let before = |piece, level| weight(older, old, piece, level);
-    let now = |piece, level| weight(newer, old, piece, level);
-    if older.utf8 != newer.utf8 {
-        return change == Change::Utf8;
-    }
-    match change {
-        Change::Utf8 => false,
-        Change::Joins(piece) => {
-            before(piece, Level::Primary).is_some() != now(piece, Level::Primary).is_some()
-        }
-        Change::Counts(piece, level) => match (before(piece, level), now(piece, level)) {
-            (Some(before), Some(now)) => (before == 0) != (now == 0),
-            _ => false,
-        },
-        Change::Order(one, other, level) => {
-            let all = (
-                before(one, level),
-                before(other, level),
-                now(one, level),
-                now(other, level),
-            );
-            match all {
-                (Some(a), Some(b), Some(c), Some(d)) => a.cmp(&b) != c.cmp(&d),
-                _ => false,
-            }
-        }
-    }
+    Ok(longs)
 }
 
 // What is said of a newer table is so.
@@ -337,8 +242,9 @@ fn try_names(
 fn old_name(heap: Global, dice: &mut Dice, old: &Alphabet) -> Result<Vec<u8>, AllocError> {
     let mut name = Vec::new(heap);
     if !old.letters.is_empty() {
+        let mut spelling = Spelling::new();
         for _ in 0..dice.below(8) {
-            reading::write(&mut name, old.utf8, old.one(dice))?;
+            reading::write(&mut name, old.utf8, spelling.next(dice, old))?;
         }
     }
     Ok(name)

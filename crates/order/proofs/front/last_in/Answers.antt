@@ -11,4 +11,5 @@ returns-then-letter-lt65536 c =
     let k = c.if-taken-length.true in
     let f = c.if-length-front.false in
     let g = rest_of n i in
-    last_read c.args.utf8 n i c.in_ok-letter.letter c.in_ok-letter.taken _ g (sym c.first_in.ensures ∙ c.in_ok-letter.was) (let l = ap length g in omega (arith, k, d, l, f)) c.if-letter-lt65536.true
+    let x = ap length g in
+    last_read c.args.utf8 n i c.in_ok-letter.letter c.in_ok-letter.taken c.loop-length.length _ g (sym c.first_in.ensures ∙ c.in_ok-letter.was) (omega (arith, k, d, x, f)) c.if-letter-lt65536.true (omega (arith, d, x, f)) (omega (arith, f))

@@ -1,9 +1,9 @@
-use Rattle.std.proofs.Common.{rules, ◌≡◌, true, Err, sym, subst}
+use Rattle.std.proofs.Common.{◌≡◌, true, sym, subst}
 use Rattle.table.specs.Meaning.{rules_of}
 use Rattle.order.specs.Changes.{Decided}
 use Rattle.order.specs.Newer.{is_piece}
 use Rattle.order.specs.Pieces.{old_in, run_in}
-use Rattle.order.proofs.Deciding.{Counted, Placed, StandsTo, all_counted, all_kept, all_pieces, counted, in_newer_only, in_older_only, met, none_joined, old_too, order_changed, piece_of_older, placed, read_alike, read_otherwise, runs_kept, stands, walked_all, walked_more, zero_changed}
+use Rattle.order.proofs.Deciding.{Counted, Placed, StandsTo, all_counted, all_kept, all_pieces, counted, err_is, in_newer_only, in_older_only, met, none_joined, old_too, order_changed, piece_of_older, placed, read_alike, read_otherwise, runs_kept, stands, walked_all, walked_more, zero_changed}
 use Rattle.order.proofs.newer.keeps_order.Goals as goal
 
 pub returns-then-utf8 : goal.returns-then-utf8
@@ -15,26 +15,26 @@ pub returns-in_err-new : goal.returns-in_err-new
 returns-in_err-new c =
     let o = met c.args.newer.now c.args.old.now (λ q. is_piece (rules_of c.args.older.now) q ≡ true) c.loop-piece.piece-iterator c.in-Some.piece _ c.in-Some.ensures.steps c.loop-piece.invariant.2 in
     let d = in_newer_only c.args.old.now (rules_of c.args.older.now) (rules_of c.args.newer.now) (read_alike _ _ _ _ c.utf8-2.ensures c.utf8-2-2.ensures c.if-utf8.false) c.in-Some.piece c.in_err-new.field-0.0 o c.in_err-new.ensures in
-    search rules
+    subst (Decided (old_in c.args.old.now) (rules_of c.args.older.now) (rules_of c.args.newer.now)) (sym (err_is _ _ c.from_residual.ensures.1)) d
 
 pub returns-in_err-new-2 : goal.returns-in_err-new-2
 returns-in_err-new-2 c =
     let o = met c.args.older.now c.args.old.now (Counted c.args.old.now (rules_of c.args.older.now) (rules_of c.args.newer.now)) c.loop-piece-2.piece-iterator c.in-Some-piece.piece _ c.in-Some-piece.ensures.steps c.loop-piece-2.invariant.2 in
     let d = in_older_only c.args.old.now (rules_of c.args.older.now) (rules_of c.args.newer.now) (read_alike _ _ _ _ c.utf8-2.ensures c.utf8-2-2.ensures c.if-utf8.false) c.in-Some-piece.piece c.in_err-new-2.field-0.0 o c.in_err-new-2.ensures in
-    search rules
+    subst (Decided (old_in c.args.old.now) (rules_of c.args.older.now) (rules_of c.args.newer.now)) (sym (err_is _ _ c.from_residual-in_err-new-2.ensures.1)) d
 
 pub returns-in_err-same_zeros : goal.returns-in_err-same_zeros
 returns-in_err-same_zeros c =
     let o = met c.args.older.now c.args.old.now (Counted c.args.old.now (rules_of c.args.older.now) (rules_of c.args.newer.now)) c.loop-piece-2.piece-iterator c.in-Some-piece.piece _ c.in-Some-piece.ensures.steps c.loop-piece-2.invariant.2 in
     let j = none_joined c.args.old.now c.args.older.now c.args.newer.now (all_pieces c.args.old.now c.args.older.now c.args.newer.now (walked_all c.args.newer.now c.args.old.now (λ q. is_piece (rules_of c.args.older.now) q ≡ true) c.loop-piece.piece-iterator c.in-None.ensures.steps c.loop-piece.invariant.2)) in
     let d = zero_changed c.args.old.now (rules_of c.args.older.now) (rules_of c.args.newer.now) (read_alike _ _ _ _ c.utf8-2.ensures c.utf8-2-2.ensures c.if-utf8.false) c.in-Some-piece.piece c.in_ok-new-2.field-0 c.in_err-same_zeros.field-0.0 j o c.in_ok-new-2.ensures c.in_err-same_zeros.ensures in
-    search rules
+    subst (Decided (old_in c.args.old.now) (rules_of c.args.older.now) (rules_of c.args.newer.now)) (sym (err_is _ _ c.from_residual-in_err-same_zeros.ensures.1)) d
 
 pub returns-in_err-new-3 : goal.returns-in_err-new-3
 returns-in_err-new-3 c =
     let o = met c.args.newer.now c.args.old.now (Counted c.args.old.now (rules_of c.args.older.now) (rules_of c.args.newer.now)) c.loop-piece-3.piece-iterator c.in-Some-piece-2.piece _ c.in-Some-piece-2.ensures.steps c.loop-piece-3.invariant.2 in
     let d = in_newer_only c.args.old.now (rules_of c.args.older.now) (rules_of c.args.newer.now) (read_alike _ _ _ _ c.utf8-2.ensures c.utf8-2-2.ensures c.if-utf8.false) c.in-Some-piece-2.piece c.in_err-new-3.field-0.0 o c.in_err-new-3.ensures in
-    let e : c.from_residual-in_err-new-3.result ≡ Err c.in_err-new-3.field-0.0 = search rules in
+    let e = err_is _ _ c.from_residual-in_err-new-3.ensures.1 in
     subst (Decided (old_in c.args.old.now) (rules_of c.args.older.now) (rules_of c.args.newer.now)) (sym e) d
 
 pub returns-in_err-same_zeros-2 : goal.returns-in_err-same_zeros-2
@@ -44,25 +44,25 @@ returns-in_err-same_zeros-2 c =
     let j = none_joined c.args.old.now c.args.older.now c.args.newer.now a in
     let o = old_too c.args.old.now (rules_of c.args.older.now) (rules_of c.args.newer.now) (run_in c.in-Some-piece-2.piece) n (a (run_in c.in-Some-piece-2.piece) n) in
     let d = zero_changed c.args.old.now (rules_of c.args.older.now) (rules_of c.args.newer.now) (read_alike _ _ _ _ c.utf8-2.ensures c.utf8-2-2.ensures c.if-utf8.false) c.in-Some-piece-2.piece c.in_ok-new-3.field-0 c.in_err-same_zeros-2.field-0.0 j o c.in_ok-new-3.ensures c.in_err-same_zeros-2.ensures in
-    let e : c.from_residual-in_err-same_zeros-2.result ≡ Err c.in_err-same_zeros-2.field-0.0 = search rules in
+    let e = err_is _ _ c.from_residual-in_err-same_zeros-2.ensures.1 in
     subst (Decided (old_in c.args.old.now) (rules_of c.args.older.now) (rules_of c.args.newer.now)) (sym e) d
 
 pub returns-in_err-weighed : goal.returns-in_err-weighed
 returns-in_err-weighed c =
     let o = met c.args.older.now c.args.old.now (Placed c.args.old.now (rules_of c.args.older.now) (rules_of c.args.newer.now)) c.loop-piece-4.piece-iterator c.in-Some-piece-3.piece _ c.in-Some-piece-3.ensures.steps c.loop-piece-4.invariant.2 in
     let d = in_older_only c.args.old.now (rules_of c.args.older.now) (rules_of c.args.newer.now) (read_alike _ _ _ _ c.utf8-2.ensures c.utf8-2-2.ensures c.if-utf8.false) c.in-Some-piece-3.piece c.in_err-weighed.field-0.0 o c.in_err-weighed.ensures in
-    search rules
+    subst (Decided (old_in c.args.old.now) (rules_of c.args.older.now) (rules_of c.args.newer.now)) (sym (err_is _ _ c.from_residual-in_err-weighed.ensures.1)) d
 
 pub returns-in_err-new-4 : goal.returns-in_err-new-4
 returns-in_err-new-4 c =
     let o = met c.args.older.now c.args.old.now (StandsTo c.args.old.now (rules_of c.args.older.now) (rules_of c.args.newer.now) c.in_ok-weighed.weighed) c.loop-other.other-iterator c.in-Some-other.other _ c.in-Some-other.ensures.steps c.loop-other.invariant.2 in
     let d = in_older_only c.args.old.now (rules_of c.args.older.now) (rules_of c.args.newer.now) (read_alike _ _ _ _ c.utf8-2.ensures c.utf8-2-2.ensures c.if-utf8.false) c.in-Some-other.other c.in_err-new-4.field-0.0 o c.in_err-new-4.ensures in
-    let e : c.from_residual-in_err-new-4.result ≡ Err c.in_err-new-4.field-0.0 = search rules in
+    let e = err_is _ _ c.from_residual-in_err-new-4.ensures.1 in
     subst (Decided (old_in c.args.old.now) (rules_of c.args.older.now) (rules_of c.args.newer.now)) (sym e) d
 
 pub returns-in_err-same_order : goal.returns-in_err-same_order
 returns-in_err-same_order c =
-    let e : c.from_residual-in_err-same_order.result ≡ Err c.in_err-same_order.field-0.0 = search rules in
+    let e = err_is _ _ c.from_residual-in_err-same_order.ensures.1 in
     let o = met c.args.older.now c.args.old.now (Placed c.args.old.now (rules_of c.args.older.now) (rules_of c.args.newer.now)) c.loop-piece-4.piece-iterator c.in-Some-piece-3.piece _ c.in-Some-piece-3.ensures.steps c.loop-piece-4.invariant.2 in
     let r = met c.args.older.now c.args.old.now (StandsTo c.args.old.now (rules_of c.args.older.now) (rules_of c.args.newer.now) c.in_ok-weighed.weighed) c.loop-other.other-iterator c.in-Some-other.other _ c.in-Some-other.ensures.steps c.loop-other.invariant.2 in
     let a = all_pieces c.args.old.now c.args.older.now c.args.newer.now (walked_all c.args.newer.now c.args.old.now (λ q. is_piece (rules_of c.args.older.now) q ≡ true) c.loop-piece.piece-iterator c.in-None.ensures.steps c.loop-piece.invariant.2) in

@@ -1,8 +1,9 @@
 use Rattle.std.proofs.Common.{drop, sym, ap, ◌∙◌, rules}
-use Rattle.keys.specs.Letters.{first_in, one_byte}
+use Rattle.keys.specs.Letters.{letters_in, one_byte}
 use Rattle.table.specs.Meaning.{rules_of}
 use Rattle.keys.proofs.Lettering.{small_first}
-use Rattle.keys.proofs.Stepping.{begins_none, letter_read, short, stops}
+use Rattle.keys.proofs.Pieces.{alone}
+use Rattle.keys.proofs.Stepping.{letter_read, short, stops}
 use Rattle.keys.proofs.walk.Walk.step.Goals as goal
 
 pub returns-then-counts : goal.returns-then-counts
@@ -14,5 +15,5 @@ returns-then-counts c =
     let n = c.in-Some.ensures.cases.0 in
     let b = ap (λ u. one_byte u a) (sym c.utf8-2.ensures) ∙ (sym c.one_byte.ensures ∙ c.if-one_byte.true) in
     let r = letter_read w a 1 c.in-Some.rest v (sym (small_first t.utf8 a c.in-Some.rest.now w.rest.now n b)) (sym (ap (drop 1) n))
-    (begins_none t a (c.may_begin.ensures c.if-not-may_begin.true) (first_in t.utf8 c.in-Some.rest.now)) c.letter-weights.ensures in
+    (alone t a (letters_in t.utf8 c.in-Some.rest.now) (c.may_begin.ensures.none c.if-not-may_begin.true)) c.letter-weights.ensures in
     stops w (record { table = w.table; rest = c.in-Some.rest; weights = v }) r (short v (search rules) (search rules) (search rules))

@@ -1,7 +1,6 @@
 use Rattle.std.proofs.Common.{◌≡◌, ◌+◌, ◌*◌, ℕ, Bool, cond, vec_items, sym, ap, ◌∙◌, arith}
 use Rattle.table.specs.Buffer.{many_below}
-use Rattle.table.specs.Numbers.{weights_at}
-use Rattle.table.specs.Rules.{counts}
+use Rattle.pieces.specs.Runs.{weights_at, counts}
 use Rattle.table.proofs.Setting.{many_most, many_next, none_below}
 use Rattle.table.proofs.buffer.TableBuf.letter_count.Goals as goal
 use Rattle.table.proofs.buffer.TableBuf.letter_count.Goals.{then-counts, else-counts}

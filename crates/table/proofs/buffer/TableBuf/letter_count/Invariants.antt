@@ -1,7 +1,6 @@
 use Rattle.std.proofs.Common.{◌≡◌, ◌*◌, vec_items}
 use Rattle.table.specs.Buffer.{many_below}
-use Rattle.table.specs.Numbers.{weights_at}
-use Rattle.table.specs.Rules.{counts}
+use Rattle.pieces.specs.Runs.{weights_at, counts}
 use Rattle.table.proofs.buffer.TableBuf.letter_count.Given as goal
 
 abbrev pub invariant-loop-letter : goal.invariant-loop-letter

@@ -3,4 +3,4 @@ use Rattle.table.specs.Records.{first_refusal, twice_record}
 use Rattle.table.proofs.buffer.records.all_apart.Given as goal
 
 abbrev pub invariant-loop-place : goal.invariant-loop-place
-invariant-loop-place l = first_refusal twice_record (take l.place l.pairs) (drop l.place l.pairs) ≡ first_refusal twice_record [] l.pairs
+invariant-loop-place l = first_refusal twice_record (take l.place l.runs) (drop l.place l.runs) ≡ first_refusal twice_record [] l.runs

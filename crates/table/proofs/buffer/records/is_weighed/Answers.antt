@@ -1,7 +1,7 @@
 use Rattle.std.proofs.Common.{◌&&◌, eqb, ◌∙◌, rules}
 use Rattle.std.proofs.lemmas.Iterator.{YieldsList-from_slice}
 use Rattle.std.proofs.lemmas.Iterator.Search.{any_from_yields_List}
-use Rattle.table.specs.Rules.{counts}
+use Rattle.pieces.specs.Runs.{counts}
 use Rattle.table.proofs.Told.{any_told}
 use Rattle.table.proofs.buffer.records.is_weighed.Goals as goal
 

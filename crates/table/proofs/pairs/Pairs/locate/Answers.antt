@@ -1,6 +1,6 @@
-use Rattle.std.proofs.Common.{◌%◌, refl, sym, ap, get_or, false, ◌∙◌, arith}
+use Rattle.std.proofs.Common.{refl, sym, ◌∙◌, arith}
 use Rattle.table.specs.Chain.{bucket}
-use Rattle.table.proofs.Chaining.{below, bucket_below, follows_head, follows_link, found, head_at, link_lower, mark_at, none_begun, nowhere}
+use Rattle.table.proofs.Chaining.{below, bucket_below, follows_head, follows_link, found, head_at, link_lower, none_begun, nowhere}
 use Rattle.table.proofs.pairs.Pairs.locate.Goals as goal
 
 pub returns-then-not-may_begin : goal.returns-then-not-may_begin

@@ -2,6 +2,7 @@ use Rattle.std.proofs.Common.{true}
 use Rattle.std.proofs.lemmas.Bool.{true≢false}
 use Rattle.table.specs.Refusals.{foreign}
 use Rattle.table.proofs.Firsts.{none_at, none_below}
+use Rattle.table.proofs.Longs.{longs_known}
 use Rattle.table.proofs.Places.{known_in_utf8}
 use Rattle.table.proofs.view.Table.in_utf8.Goals as goal
 
@@ -15,4 +16,9 @@ invariant_of-result c =
       ascends = t.ascends;
       others_weigh = t.others_weigh;
       bytes = λ e. absurd (true≢false e);
+      few = t.few;
+      rise = t.rise;
+      long_apart = t.long_apart;
+      long_known = longs_known t.utf8 t.longs.now t.long_known;
+      marked = t.marked;
     }

@@ -1,6 +1,6 @@
 use Rattle.std.proofs.Common.{◌-◌, Some, ap, sym, ◌∙◌}
 use Rattle.std.proofs.lemmas.Option.{slice_get-get_or, slice_get_past}
-use Rattle.table.specs.declared.piece.Letter.{Letter}
+use Rattle.pieces.specs.declared.piece.Letter.{Letter}
 use Rattle.table.proofs.Lawful.{byte_listed, other_listed}
 use Rattle.table.proofs.view.Table.letter_at.Goals as goal
 

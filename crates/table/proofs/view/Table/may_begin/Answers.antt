@@ -1,11 +1,15 @@
-use Rattle.std.proofs.Common.{ap, sym, ◌∙◌}
-use Rattle.std.specs.Option.{option_map}
-use Rattle.table.specs.Numbers.{weights_at}
-use Rattle.table.proofs.Chaining.{none_begun}
-use Rattle.table.proofs.Places.{none_contracts}
+use Rattle.std.proofs.Common.{◌%◌, false, get_or, ap, sym, ◌∙◌, arith}
+use Rattle.table.proofs.Longs.{mark_there, marks_say, none_begins}
 use Rattle.table.proofs.view.Table.may_begin.Goals as goal
 
-pub returns : goal.returns
-returns c e b =
+pub returns-clause-says : goal.returns-clause-says
+returns-clause-says c =
     let t = c.args.self.now in
-    none_contracts t.utf8 t.letters.now t.others.now t.pairs.numbers.now t.pairs.count c.args.letter b (none_begun t.pairs.numbers.now t.pairs.count c.args.letter b (sym c.may_begin.ensures ∙ e))
+    ap (λ ms. get_or ms (c.args.letter % 256) false) t.marked
+    ∙ (mark_there t.pairs.numbers.now t.pairs.count t.longs.now (c.args.letter % 256) (omega arith) ∙ marks_say t.pairs.numbers.now t.pairs.count t.longs.now c.args.letter)
+
+pub returns-clause-none : goal.returns-clause-none
+returns-clause-none c e =
+    let t = c.args.self.now in
+    none_begins t.pairs.numbers.now t.pairs.count t.utf8 t.letters.now t.others.now t.longs.now c.args.letter
+    (sym (mark_there t.pairs.numbers.now t.pairs.count t.longs.now (c.args.letter % 256) (omega arith)) ∙ (ap (λ ms. get_or ms (c.args.letter % 256) false) (sym t.marked) ∙ e))

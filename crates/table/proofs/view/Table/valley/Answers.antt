@@ -18,3 +18,10 @@ returns-clause-rules c =
     let e = c.unwrap.ensures in
     let h = rw e at u in
     h.1 ∙ (ap₂ (λ ls ps. rules_in ls ps 1) c.valley_letters.ensures c.valley_pairs.ensures ∙ valley_rules)
+
+pub returns-clause-longs : goal.returns-clause-longs
+returns-clause-longs c =
+    let u = c.check.ensures in
+    let e = c.unwrap.ensures in
+    let h = rw e at u in
+    h.3

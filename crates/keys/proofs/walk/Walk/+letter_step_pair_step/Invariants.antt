@@ -1,8 +1,0 @@
-use Rattle.std.proofs.Common.{◌+◌, ◌*◌, length}
-use Rattle.keys.proofs.walk.Walk.+letter_step_pair_step.Given as goal
-
-abbrev pub decreases-letter_step : goal.decreases-letter_step
-decreases-letter_step l = 2 * length l.self.now.rest.now + 1
-
-abbrev pub decreases-pair_step : goal.decreases-pair_step
-decreases-pair_step l = 2 * length l.self.now.rest.now

@@ -1,0 +1,6 @@
+use Rattle.std.proofs.Common.{◌≡◌, [], drop, take}
+use Rattle.table.specs.Records.{first_refusal, length_record}
+use Rattle.table.proofs.buffer.records.all_fit.Given as goal
+
+abbrev pub invariant-loop-place : goal.invariant-loop-place
+invariant-loop-place l = first_refusal length_record (take l.place l.runs) (drop l.place l.runs) ≡ first_refusal length_record [] l.runs
