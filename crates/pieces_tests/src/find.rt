@@ -1,6 +1,6 @@
 // Runs that are found, and that are not.
-use crate::list::Longs;
-use pieces::{Long, LongRun, Ranked, Weights};
+use crate::list::add;
+use pieces::{Long, LongRun, Ranked, Weights, find_long, place_for};
 use std::alloc::{AllocError, Global};
 use std::process::Abort;
 use std::test::Fail;
@@ -39,8 +39,8 @@ fn plain_below(longs: &[Long], rank: u64) -> usize {
 }
 
 // So many runs of three and of four letters, most of which begin like others, in no order; some are there twice.
-fn many_longs(heap: Global, many: u32) -> Result<Longs, AllocError> {
-    let mut longs = Longs::new(heap);
+fn many_longs(heap: Global, many: u32) -> Result<Vec<Long>, AllocError> {
+    let mut longs = Vec::new(heap);
     for k in 0..many.min(1000) {
         let (a, b, c, d) = (k * 7 % 5, k % 3, k / 3 % 4, k / 5 % 3);
         let run = if k % 2 == 0 {
@@ -49,21 +49,21 @@ fn many_longs(heap: Global, many: u32) -> Result<Longs, AllocError> {
             four(a, b, c, d)
         };
         let weights = Weights::from([k as u16, 1, 2]);
-        longs.add(Long { run, weights })?;
+        add(&mut longs, Long { run, weights })?;
     }
     Ok(longs)
 }
 
 // Each run of letters below 6 is found, or is not, just as by a plain look.
-fn hold(rt: &impl Abort, longs: &Longs) {
+fn hold(rt: &impl Abort, longs: &[Long]) {
     for k in 0..1296u32 {
         let (a, b, c, d) = (k % 6, k / 6 % 6, k / 36 % 6, k / 216);
         for run in [three(a, b, c), four(a, b, c, d)] {
-            assert_eq!(rt; longs.find(run), plain(longs.as_slice(), run));
+            assert_eq!(rt; find_long(longs, run), plain(longs, run));
         }
     }
     for rank in 0..16u64 {
-        assert_eq!(rt; longs.below(rank), plain_below(longs.as_slice(), rank));
+        assert_eq!(rt; place_for(longs, rank), plain_below(longs, rank));
     }
 }
 
@@ -71,7 +71,7 @@ fn hold(rt: &impl Abort, longs: &Longs) {
 fn beside_plain(rt: HostRuntime) -> Result<(), Fail> {
     for many in [0, 1, 2, 3, 10, 200] {
         let longs = many_longs(rt.alloc(), many)?;
-        assert_eq!(rt; longs.as_slice().len(), many as usize);
+        assert_eq!(rt; longs.len(), many as usize);
         hold(&rt, &longs);
     }
     Ok(())
@@ -80,7 +80,7 @@ fn beside_plain(rt: HostRuntime) -> Result<(), Fail> {
 // The front of a run, a run with one letter more, the greatest letters, and the first of two that are of the same letters.
 #[test]
 fn borders(rt: HostRuntime) -> Result<(), Fail> {
-    let mut longs = Longs::new(rt.alloc());
+    let mut longs = Vec::new(rt.alloc());
     let runs = [
         four(7, 8, 9, 10),
         three(7, 8, 10),
@@ -91,7 +91,7 @@ fn borders(rt: HostRuntime) -> Result<(), Fail> {
     ];
     for (place, run) in runs.iter().enumerate() {
         let weights = Weights::from([place as u16, 0, 0]);
-        longs.add(Long { run: *run, weights })?;
+        add(&mut longs, Long { run: *run, weights })?;
     }
     let cases = [
         (four(7, 8, 9, 10), Some(0u16)),
@@ -114,7 +114,7 @@ fn borders(rt: HostRuntime) -> Result<(), Fail> {
     ];
     for (run, primary) in cases {
         let weights = primary.map(|primary| Weights::from([primary, 0, 0]));
-        assert_eq!(rt; longs.find(run), weights);
+        assert_eq!(rt; find_long(&longs, run), weights);
     }
     Ok(())
 }

@@ -3,8 +3,7 @@
 
 #[cfg(test)]
 mod find;
+#[cfg(test)]
 mod list;
 #[cfg(test)]
 mod place;
-
-pub use list::{Longs, few_letters};
