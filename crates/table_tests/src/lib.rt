@@ -10,6 +10,8 @@ mod longs;
 #[cfg(test)]
 mod look;
 #[cfg(test)]
+mod most;
+#[cfg(test)]
 mod records;
 #[cfg(test)]
 mod refuse;
