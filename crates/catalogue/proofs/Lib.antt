@@ -10,3 +10,4 @@ pub mod Plain
 pub mod Inserting
 pub mod Lawful
 pub mod Once
+pub mod Written

@@ -17,7 +17,7 @@ use Rattle.table.specs.declared.buffer.TableBuf.{TableBuf}
 use Rattle.table.specs.declared.fault.Failure.{Failure}
 use Rattle.table.specs.declared.fault.Failure.TheVariants.{NoMemory, Refused}
 use Rattle.table.specs.declared.fault.Refusal.{Refusal}
-use Rattle.pieces.specs.declared.piece.Letter.{Letter}
+use Rattle.pieces.specs.declared.piece.LetterEntry.{LetterEntry}
 use Rattle.pieces.specs.declared.piece.Long.{Long}
 use Rattle.pieces.specs.declared.piece.Pair.{Pair}
 
@@ -95,7 +95,7 @@ EntryPut refusal there b (Err (Refused why)) c = (refusal ≡ Some why) × (c �
 EntryPut refusal there b (Err NoMemory) c = Added refusal there b.table (Err NoMemory) c.table × Kept b c
 
 -- a letter is added
-abbrev pub LetterPut : CatalogueBuf → Letter → Result Unit (Failure Refusal) → CatalogueBuf → Type 0
+abbrev pub LetterPut : CatalogueBuf → LetterEntry → Result Unit (Failure Refusal) → CatalogueBuf → Type 0
 LetterPut b e r c = EntryPut (letter_refusal (held_rules b) (buffer_letters b.table) e) (EntryIn b.table e) b r c
 
 -- a pair is

@@ -1,6 +1,8 @@
 -- The part of a list that begins so.
-use Rattle.std.specs.Prelude.{◌≡◌, ℕ, ◌+◌, ◌<◌, ◌≤◌, Bool, true, false, cond, List, [], filter, length, is_none, slice_index_or, slice_range, ◌&&◌, nat_lt, nat_le}
+use Rattle.std.specs.Prelude.{◌≡◌, ℕ, ◌+◌, ◌<◌, ◌≤◌, Bool, true, false, cond, List, [], filter, length, is_none, slice_index_or, slice_range, ◌&&◌, ◌==◌, nat_lt, nat_le}
+use Rattle.std.specs.List.{list_any}
 use Rattle.catalogue.specs.Lists.{Lists, name_at, name_of}
+use Rattle.keys.specs.Expansions.{WrittenOut}
 use Rattle.keys.specs.Refusals.{name_refusal}
 use Rattle.keys.specs.Rows.{row}
 use Rattle.keys.specs.declared.level.Level.TheVariants.{Primary}
@@ -55,6 +57,17 @@ pub record PlacesStand (l : Lists) (ask : List ℕ) (from to : ℕ) : Type 0 whe
 abbrev pub FoundAt : Bool → Lists → (ask : List ℕ) → (from to : ℕ) → Type 0
 FoundAt true l ask from to = PlacesStand l ask from to
 FoundAt false l ask from to = (from ≡ 0) × (to ≡ 0)
+
+-- a number is one of these
+abbrev pub is_among : List ℕ → (number : ℕ) → Bool
+is_among ns i = list_any (λ k. k == i) ns
+
+-- Of two names of the list, the second of which is the first with each letter written out that weighs as others do one behind the
+-- other, and no run stands in the way, the part has both or neither.
+abbrev pub BothOrNeither : Lists → (part : List ℕ) → Type 0
+BothOrNeither l part =
+    (a : ℕ) (ds : List ℕ) (i j : ℕ) → is_among l.places i ≡ true → is_among l.places j ≡ true →
+    WrittenOut l.rules a ds (name_of l.text l.starts i) (name_of l.text l.starts j) → is_among part i ≡ is_among part j
 
 -- what looking through the whole list gives, where all is as it should be; else nothing
 abbrev pub looked_through : Bool → Lists → (ask : List ℕ) → List ℕ

@@ -2,7 +2,7 @@
 use Rattle.std.specs.Prelude.{◌≡◌, ℕ, ◌+◌, ◌-◌, ◌<◌, ◌≤◌, Bool, true, false, List, [], Some, None, filter, length, map, slice_index_or, drop}
 use Rattle.std.specs.List.{concat, range_with_len}
 use Rattle.catalogue.specs.Arranging.{Arranged}
-use Rattle.catalogue.specs.Finding.{PartFound, begins_so}
+use Rattle.catalogue.specs.Finding.{BothOrNeither, PartFound, begins_so, looked_through}
 use Rattle.catalogue.specs.Lists.{Lists, lists, name_at, name_of, names_fault, places_fault}
 use Rattle.catalogue.specs.declared.fault.ListFault.{ListFault}
 use Rattle.catalogue.specs.declared.fault.ListFault.TheVariants.{NoStart, StartFalls, EndsElsewhere, NameRefused, NoSuchName, OutOfOrder}
@@ -107,6 +107,10 @@ PartThere = (l : Lists) (ask : List ℕ) → places_fault l ≡ None → PartFou
 abbrev pub AllBegin : Type 0
 AllBegin = (l : Lists) (ask : List ℕ) → row Primary l.rules ask ≡ [] → filter (begins_so l ask) l.places ≡ l.places
 
+-- what looking through a list gives has both or neither of two names one of which is the other written out
+abbrev pub WrittenOutTogether : Type 0
+WrittenOutTogether = (right : Bool) (l : Lists) (ask : List ℕ) → BothOrNeither l (looked_through right l ask)
+
 -- names can always be put in order: under any rules there is a list of all of them
 abbrev pub SomeList : Type 0
 SomeList = (t : Rules) (text starts : List ℕ) → (places : List ℕ) × Arranged (lists t text starts places)
@@ -125,5 +129,6 @@ pub record CatalogueLaws : Type 0 where
   pub just_that_part : JustThatPart
   pub part_there : PartThere
   pub all_begin : AllBegin
+  pub written_out_together : WrittenOutTogether
   pub some_list : SomeList
   pub one_list : OneList

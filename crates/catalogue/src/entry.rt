@@ -1,5 +1,6 @@
 // Finding in lists that are lent and not checked before.
 ghost use Rattle.catalogue.specs.Entry.{FindSays, FindsUnder};
+ghost use Rattle.catalogue.specs.Finding.{BothOrNeither};
 ghost use Rattle.catalogue.specs.Lists.{lists};
 ghost use Rattle.table.specs.Meaning.{rules_of};
 
@@ -34,7 +35,8 @@ pub fn find_under<'a>(
     places: &'a [u32],
     ask: &[u8],
 ) -> &'a [u32]
-    ensures { FindsUnder (lists (rules_of table.now) text.now starts.now places.now) ask.now result.now }
+    ensures found { FindsUnder (lists (rules_of table.now) text.now starts.now places.now) ask.now result.now }
+    ensures written_out { BothOrNeither (lists (rules_of table.now) text.now starts.now places.now) result.now }
 {
     let Ok(catalogue) = Catalogue::check(table, text, starts, places) else {
         return &places[..0];

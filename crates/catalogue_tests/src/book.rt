@@ -3,7 +3,7 @@ use catalogue::Names;
 use order::{Collate, Standing};
 use std::alloc::Global;
 use std::test::Fail;
-use table::{Letter, Table, TableBuf, Weights};
+use table::{Letter, LetterEntry, Table, TableBuf, Weights};
 
 // A text and its starts, as a catalogue takes them.
 #[derive(Drop)]
@@ -33,11 +33,11 @@ pub(crate) fn fill(table: &mut TableBuf, letters: &[(u32, [u16; 3])]) -> Result<
     Ok(())
 }
 
-pub(crate) fn entry(letter: u32, weights: [u16; 3]) -> Letter {
-    Letter {
+pub(crate) fn entry(letter: u32, weights: [u16; 3]) -> LetterEntry {
+    LetterEntry::from(Letter {
         letter,
         weights: Weights::from(weights),
-    }
+    })
 }
 
 // The numbers of a list whose names begin as asked, by looking at each.

@@ -1,5 +1,5 @@
 -- Names that are taken, and keys that do not fit.
-use Rattle.std.proofs.Common.{◌≡◌, ℕ, ◌≤◌, Bool, true, false, cond, ltb, List, length, None, Some, Option, Ok, Err, refl, sym, ap, ◌∙◌, arith}
+use Rattle.std.proofs.Common.{◌≡◌, ℕ, ◌+◌, ◌-◌, ◌*◌, ◌/◌, ◌^◌, min, ◌≤◌, Bool, true, false, cond, ltb, List, length, None, Some, Option, Ok, Err, refl, sym, ap, ◌∙◌, arith}
 use Rattle.std.proofs.lemmas.Bool.{le-ltb}
 use Rattle.std.proofs.lemmas.Bool.Decides.{nat_tests}
 use Rattle.std.proofs.lemmas.Option.{none-some, same_Some}
@@ -7,7 +7,7 @@ use Rattle.table.specs.declared.fault.Refusal.{Refusal}
 use Rattle.table.specs.declared.fault.Refusal.TheVariants.{Foreign, Letters, Shape, TooMany, Twice}
 use Rattle.table.specs.Refusals.{refusal_number, refusal_of}
 use Rattle.table.proofs.Refusing.{by_refusal}
-use Rattle.table.specs.Rules.{Rules, rules_in}
+use Rattle.table.specs.Rules.{rules_in}
 use Rattle.keys.specs.declared.entry.Done.TheVariants.{Short}
 use Rattle.keys.specs.declared.sort_key.Short as room_needs
 use Rattle.keys.specs.Entry.{done_of, fits_in}
@@ -18,7 +18,11 @@ use Rattle.keys.specs.declared.fault.NameRefusal.{NameRefusal}
 use Rattle.keys.specs.Letters.{letters_in, unread_in}
 use Rattle.keys.specs.Refusals.{length_refusal, name_refusal, name_refusal_number}
 use Rattle.keys.specs.Rows.{key}
-use Rattle.keys.proofs.Bounding.{key_by_letters}
+use Rattle.table.specs.Meaning.{rules_of}
+use Rattle.table.specs.declared.view.Table.{Table}
+use Rattle.keys.specs.Laws.{most_triples}
+use Rattle.keys.proofs.Bounding.{key_by_letters, key_few, none_narrow}
+use Rattle.keys.proofs.Widening.{tables_narrow, tables_narrow_three}
 
 pub enough : (k room : ℕ) → k ≤ room → Ok tt ≡ fits k room
 enough k room h = rw (le-ltb room k h)
@@ -37,7 +41,7 @@ pub too_short : (ls js : List ℕ) (n : ℕ) (x : List ℕ) (room : ℕ) (short 
     → fits (length (key (rules_in ls js n) x)) room ≡ Err short → Short short.needs ≡ done_of ls js n x room
 too_short ls js n x room short a b e =
     let l = name_kept false x b in
-    let f = key_by_letters (rules_in ls js n) x in
+    let f = key_by_letters 1 (rules_in ls js n) (none_narrow (rules_in ls js n) (λ p. refl)) x in
     needs_all (length (key (rules_in ls js n) x)) room short (omega arith) e ∙ rw (a, b)
 
 -- a table of bytes is turned away with 1
@@ -49,9 +53,22 @@ byte_number ls js n why =
     one : (a : Refusal) → ◌≡◌ {A = Option Refusal} (Some a) (Some why) → refusal_number a ≡ 1 → refusal_number why ≡ 1
     one a e r = ap refusal_number (sym (same_Some a why e)) ∙ r
 
--- the key of a name that is taken has at most 3,002 numbers
-pub key_most : (t : Rules) (n : List ℕ) → name_refusal t.utf8 n ≡ None → length (key t n) ≤ 3002
-key_most t n e = let l = name_kept t.utf8 n e in let f = key_by_letters t n in omega arith
+-- the key of a name that is taken has at most 9,002 numbers
+pub key_most : (t : Table) (n : List ℕ) → name_refusal (rules_of t).utf8 n ≡ None → length (key (rules_of t) n) ≤ 9002
+key_most t n e = let l = name_kept (rules_of t).utf8 n e in let f = key_by_letters 3 (rules_of t) (tables_narrow_three t) n in omega arith
+
+-- and with so many numbers for each letter, two more than all of them
+pub key_fits : (t : Table) (n : List ℕ) → length (key (rules_of t) n) ≤ 3 * most_triples t * length n + 2
+key_fits t n = key_few (most_triples t) (rules_of t) (tables_narrow t) n
+
+-- room for so many numbers of each letter
+pub room_each : (b : Bool) (each len room : ℕ) → each ≡ 3 * cond b 3 1 → 2 ≤ room → len ≤ (room - 2) / each → 3 * cond b 3 1 * len + 2 ≤ room
+room_each true each len room e h l = let m : len ≤ (room - 2) / 9 = rw e at l in omega arith
+room_each false each len room e h l = let m : len ≤ (room - 2) / 3 = rw e at l in omega arith
+
+pub all_each : (b : Bool) (each len all most key : ℕ) → each ≡ 3 * cond b 3 1 → all ≡ min (len * each) (2 ^ 64 - 1) → most ≡ min (all + 2) (2 ^ 64 - 1) → key ≤ 9002 → key ≤ 3 * cond b 3 1 * len + 2 → key ≤ most
+all_each true each len all most key e a m h l = let n : all ≡ min (len * 9) (2 ^ 64 - 1) = rw e at a in omega arith
+all_each false each len all most key e a m h l = let n : all ≡ min (len * 3) (2 ^ 64 - 1) = rw e at a in omega arith
 
 -- and a name under it with 2
 pub byte_name : (x : List ℕ) (why : NameRefusal) → name_refusal false x ≡ Some why → name_refusal_number why ≡ 2

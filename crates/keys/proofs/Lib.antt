@@ -2,8 +2,11 @@ pub mod Lettering
 pub mod Pieces
 pub mod Reading
 pub mod Alike
+pub mod Weighing
 pub mod Stepping
+pub mod Widening
 pub mod Bounding
+pub mod Expanding
 pub mod Entering
 pub mod Filling
 pub mod Gathering

@@ -4,12 +4,12 @@ use Rattle.std.proofs.Math.Seq.{drop-append_seam, take-append_seam}
 use Rattle.std.proofs.lemmas.Bool.{true≢false}
 use Rattle.std.proofs.lemmas.List.{length-append, length-drop, length-take-le, take-append-drop}
 use Rattle.table.proofs.Lawful.{lent_pairs, runs_fit}
-use Rattle.keys.specs.Laws.{IsPiece, OneReading, OnlyPairs, PairsRead, Reads, RunsFit, SameReading, TablesFit, pair_pieces}
+use Rattle.keys.specs.Laws.{IsPiece, OneReading, NoneExpands, OnlyPairs, PlainRead, PairsRead, Reads, RunsFit, SameReading, TablesFit, pair_pieces}
 use Rattle.keys.specs.declared.level.Level.{Level}
 use Rattle.table.specs.Rules.{Rules}
 use Rattle.keys.specs.Letters.{letters_in}
 use Rattle.keys.specs.Pieces.{met, pieces, pieces_behind, taken, together}
-use Rattle.keys.specs.Rows.{row, row_of, weight, without_zeros}
+use Rattle.keys.specs.Rows.{on, row, row_of, weighed, weight, without_zeros}
 use Rattle.keys.proofs.Pieces.{by_taken, met_fits, met_short, met_there, one_piece, taken_fits, taken_one, taken_piece, taken_some, taken_two}
 
 module _ (j : List ℕ → Bool) where
@@ -154,13 +154,20 @@ module _ (j : List ℕ → Bool) (only : OnlyPairs j) where
           let k = taken_one j ls (no_other 4 ls (λ e. omega arith)) (no_other 3 ls (λ e. omega arith)) (met_two ∙ e) in
           one_piece j a (b ∷ n) ∙ (ap₂ (λ x y. x ∷ pieces j y) (ap (λ k. take k ls) k) (ap (λ k. drop k ls) k) ∙ ap (λ x. (a ∷ []) ∷ x) one)
 
-row_read : (l : Level) (t : Rules) (n : List ℕ) → OnlyPairs t.joins → row l t n ≡ without_zeros (map (weight l t) (pair_pieces t.joins (letters_in t.utf8 n)))
-unfolding row row_of
-row_read l t n o = let ls = letters_in t.utf8 n in ap (λ ps. without_zeros (map (weight l t) ps)) (pairs_read t.joins o (length ls) ls (omega arith))
+pub plain_read : PlainRead
+unfolding row row_of weighed
+plain_read l t n e = ap without_zeros (one_each (pieces t.joins (letters_in t.utf8 n)))
+  where
+    one_each : (ps : List (List ℕ)) → map (on l) (weighed t ps) ≡ map (weight l t) ps
+    one_each [] = refl
+    one_each (p ∷ ps) = ap (λ vs. map (on l) ((t.weighs p ∷ vs) ++ weighed t ps)) (e p) ∙ ap (λ xs. weight l t p ∷ xs) (one_each ps)
+
+row_read : (l : Level) (t : Rules) (n : List ℕ) → OnlyPairs t.joins → NoneExpands t → row l t n ≡ without_zeros (map (weight l t) (pair_pieces t.joins (letters_in t.utf8 n)))
+row_read l t n o e = let ls = letters_in t.utf8 n in plain_read l t n e ∙ ap (λ ps. without_zeros (map (weight l t) ps)) (pairs_read t.joins o (length ls) ls (omega arith))
 
 pub pairs_are_read : PairsRead
 pairs_are_read = record {
   read = λ j n o. pairs_read j o (length n) n (omega arith);
   rows = row_read;
-  lent = lent_pairs;
+  lent = λ ls ps n. (lent_pairs ls ps n, λ p. refl);
 }

@@ -14,6 +14,10 @@ pub further_on : (n m l : List ℕ) (i k : ℕ) → m ≡ drop i n → l ≡ dro
 further_on n m l i k d e = (i + k, e ∙ (ap (drop k) d ∙ drop-drop k i n))
 
 module _ (t : Rules) where
+  -- two letters or more do not expand
+  abbrev pub RunsAlone : Type 0
+  RunsAlone = (p : List ℕ) → 2 ≤ length p → t.expands p ≡ []
+
   -- what is read first
   pub split_letters : (n : List ℕ) (a : ℕ) (rest : Bor (List ℕ)) → Split t.utf8 n (Some (a, rest)) → letters_in t.utf8 n ≡ a ∷ letters_in t.utf8 rest.now
   split_letters n a rest s = (read_first t.utf8 n a s.0 s.1).0 ∙ ap (λ m. a ∷ letters_in t.utf8 m) (sym s.2)
@@ -42,12 +46,13 @@ module _ (t : Rules) where
       pub four_not : contraction t (a ∷ (b ∷ (c ∷ (d ∷ [])))) ≡ None → met t.joins 4 all ≡ false
       four_not n = there 4 (c ∷ (d ∷ ms)) (a ∷ (b ∷ (c ∷ (d ∷ [])))) e (omega arith) refl ∙ none_joins t (a ∷ (b ∷ (c ∷ (d ∷ [])))) n
 
-      pub four_met : (w : Weights) → contraction t (a ∷ (b ∷ (c ∷ (d ∷ [])))) ≡ Some w → PieceAt t all ms w
-      four_met w h =
+      pub four_met : (w : Weights) → RunsAlone → contraction t (a ∷ (b ∷ (c ∷ (d ∷ [])))) ≡ Some w → PieceAt t all ms w
+      four_met w x h =
           let run = a ∷ (b ∷ (c ∷ (d ∷ []))) in
           let o = one_joins t run w h in
           let k = taken_four t.joins all (there 4 (c ∷ (d ∷ ms)) run e (omega arith) refl ∙ o.0) in (
             o.1 ∙ ap t.weighs (sym (ap₂ take k (ap (λ x. a ∷ (b ∷ x)) e))),
+            ap t.expands (ap₂ take k (ap (λ x. a ∷ (b ∷ x)) e)) ∙ x run (omega arith),
             sym (ap₂ drop k (ap (λ x. a ∷ (b ∷ x)) e)),
           )
 
@@ -55,12 +60,13 @@ module _ (t : Rules) where
       pub three_not : contraction t (a ∷ (b ∷ (c ∷ []))) ≡ None → met t.joins 3 all ≡ false
       three_not n = there 3 (c ∷ ms) (a ∷ (b ∷ (c ∷ []))) e (omega arith) refl ∙ none_joins t (a ∷ (b ∷ (c ∷ []))) n
 
-      pub three_met : (w : Weights) → met t.joins 4 all ≡ false → contraction t (a ∷ (b ∷ (c ∷ []))) ≡ Some w → PieceAt t all ms w
-      three_met w f h =
+      pub three_met : (w : Weights) → RunsAlone → met t.joins 4 all ≡ false → contraction t (a ∷ (b ∷ (c ∷ []))) ≡ Some w → PieceAt t all ms w
+      three_met w x f h =
           let run = a ∷ (b ∷ (c ∷ [])) in
           let o = one_joins t run w h in
           let k = taken_three t.joins all f (there 3 (c ∷ ms) run e (omega arith) refl ∙ o.0) in (
             o.1 ∙ ap t.weighs (sym (ap₂ take k (ap (λ x. a ∷ (b ∷ x)) e))),
+            ap t.expands (ap₂ take k (ap (λ x. a ∷ (b ∷ x)) e)) ∙ x run (omega arith),
             sym (ap₂ drop k (ap (λ x. a ∷ (b ∷ x)) e)),
           )
 
@@ -69,12 +75,12 @@ module _ (t : Rules) where
       pub two_not : contraction t (a ∷ (b ∷ [])) ≡ None → taken t.joins all ≡ 1
       two_not n = taken_one t.joins all f g (there 2 ls (a ∷ (b ∷ [])) refl (omega arith) refl ∙ none_joins t (a ∷ (b ∷ [])) n)
 
-      pub two_met : (w : Weights) → contraction t (a ∷ (b ∷ [])) ≡ Some w → PieceAt t all ls w
-      two_met w h =
+      pub two_met : (w : Weights) → RunsAlone → contraction t (a ∷ (b ∷ [])) ≡ Some w → PieceAt t all ls w
+      two_met w x h =
           let run = a ∷ (b ∷ []) in
           let o = one_joins t run w h in
           let k = taken_two t.joins all f g (there 2 ls run refl (omega arith) refl ∙ o.0) in
-          (o.1 ∙ ap (λ i. t.weighs (take i all)) (sym k), ap (λ i. drop i all) (sym k))
+          (o.1 ∙ ap (λ i. t.weighs (take i all)) (sym k), ap (λ i. t.expands (take i all)) k ∙ x run (omega arith), ap (λ i. drop i all) (sym k))
 
   -- one letter that is the last
   pub last_alone : (a : ℕ) (ls : List ℕ) → ls ≡ [] → taken t.joins (a ∷ ls) ≡ 1

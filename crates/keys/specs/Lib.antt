@@ -5,4 +5,5 @@ pub mod Reading
 pub mod Refusals
 pub mod Making
 pub mod Entry
+pub mod Expansions
 pub mod Laws

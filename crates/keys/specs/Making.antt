@@ -1,5 +1,5 @@
 -- What measuring and writing a key answer and leave.
-use Rattle.std.specs.Prelude.{◌≡◌, ℕ, ◌-◌, ◌^◌, ◌<◌, ◌≤◌, min, cond, List, ◌++◌, length, drop, Some, None, Ok, Err, Result, nat_lt}
+use Rattle.std.specs.Prelude.{◌≡◌, ℕ, ◌-◌, ◌^◌, ◌<◌, ◌≤◌, min, cond, List, ◌++◌, length, map, drop, Some, None, Ok, Err, Option, Result, nat_lt}
 use Rattle.table.specs.Rules.{Rules}
 use Rattle.table.specs.declared.fault.Failure.{Failure}
 use Rattle.table.specs.declared.fault.Failure.TheVariants.{Refused, NoMemory}
@@ -15,6 +15,11 @@ saturated n = min n (2 ^ 64 - 1)
 -- whether a key of k numbers fits into room of so many; else how many it needs
 abbrev pub fits : (k room : ℕ) → Result Unit Short
 fits k room = cond (nat_lt room k) (Err (record { needs = saturated k })) (Ok tt)
+
+-- a key of which each number lies in room as so: written into its front, or, where nothing is answered, not
+abbrev pub KeyIf : {X : Type 0} → (cell : ℕ → X) → (key : List ℕ) → (room : List X) → Option ℕ → (after : List X) → Type 0
+KeyIf cell k room None after = after ≡ room
+KeyIf cell k room (Some n) after = (n ≡ length k) × (after ≡ map cell k ++ drop n room)
 
 -- a key written into room: it fits and stands in front, what is behind it being as it was; or it doesn't fit, and room is
 -- as it was

@@ -54,7 +54,9 @@ pub(crate) fn fill<T: Cell>(table: &Table, name: &[u8], room: &mut [T]) -> usize
     ensures room { room.new ≡ map T.cell (key (rules_of table.now) name.now) ++ drop result room.old }
 {
     if name.len() <= SHORT {
-        return fill_short(table, name, room);
+        if let Some(numbers) = fill_short(table, name, room) {
+            return numbers;
+        }
     }
     fill_with(KeyNumbers::new(table, name), room)
 }

@@ -1,5 +1,5 @@
 // A name's row of a level.
-ghost use Rattle.std.specs.Prelude.{◌≡◌, length};
+ghost use Rattle.std.specs.Prelude.{◌≡◌, None, length};
 ghost use Rattle.keys.specs.Reading.{Rowed, row_left};
 ghost use Rattle.keys.specs.Rows.{row};
 ghost use Rattle.table.specs.Meaning.{rules_of};
@@ -21,7 +21,7 @@ impl<'a, 't, 'n> Row<'a, 't, 'n> {
     // The whole row of a name.
     pub fn new(table: &'a Table<'t>, level: Level, name: &'n [u8]) -> Row<'a, 't, 'n>
         ensures row { row_left result ≡ row level (rules_of table.now) name.now }
-        ensures start { result ≡ record { walk = record { table = table.entry; rest = name.entry; weights = nothing }; level = level } }
+        ensures start { result ≡ record { walk = record { table = table.entry; rest = name.entry; weights = nothing; more = None }; level = level } }
     {
         Row {
             walk: Walk::new(table, name),

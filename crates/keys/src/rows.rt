@@ -1,5 +1,6 @@
 // The key of a short name, all of whose rows are read in one go.
 ghost use Rattle.std.specs.Prelude.{◌≡◌, ◌+◌, ◌<◌, ◌≤◌, [], ◌∷◌, ◌++◌, drop, length, map, take};
+ghost use Rattle.keys.specs.Making.{KeyIf};
 ghost use Rattle.keys.specs.Reading.{in_front};
 ghost use Rattle.keys.specs.Rows.{joined, key};
 ghost use Rattle.table.specs.Meaning.{rules_of};
@@ -8,16 +9,15 @@ use crate::fill::{Cell, put};
 use crate::walk::Walk;
 use table::Table;
 
-// How many letters a short name has at the most.
+// How many bytes a short name has at the most, and how many triples that count.
 pub(crate) const SHORT: usize = 32;
 
-// The key of a short name, written into the front of `room`; how many numbers it has. Each piece is looked at once, and not once
-// for each row. The counts stand beside the rows, and not in a struct with them, so that they are held in registers.
-pub(crate) fn fill_short<T: Cell>(table: &Table, name: &[u8], room: &mut [T]) -> usize
-    requires short { length name.now ≤ 32 }
-    requires fits { length (key (rules_of table.now) name.now) ≤ length room.old }
-    ensures count { result ≡ length (key (rules_of table.now) name.now) }
-    ensures room { room.new ≡ map T.cell (key (rules_of table.now) name.now) ++ drop result room.old }
+// The key of a name, written into the front of `room`; how many numbers it has. Each piece is looked at once, and not once for each
+// row. Nothing is written where more triples count than there is place for here. The counts stand beside the rows, and not in a
+// struct with them, so that they are held in registers.
+pub(crate) fn fill_short<T: Cell>(table: &Table, name: &[u8], room: &mut [T]) -> Option<usize>
+    requires { length (key (rules_of table.now) name.now) ≤ length room.old }
+    ensures { KeyIf T.cell (key (rules_of table.now) name.now) room.old result room.new }
 {
     let mut primary = [0; SHORT];
     let mut secondary = [0; SHORT];
@@ -25,18 +25,23 @@ pub(crate) fn fill_short<T: Cell>(table: &Table, name: &[u8], room: &mut [T]) ->
     let mut first = 0;
     let mut second = 0;
     let mut third = 0;
+    let mut steps = 0;
     let mut walk = Walk::new(table, name);
     while walk.step() {
+        if steps == SHORT {
+            return None;
+        }
+        steps += 1;
         first = add(&mut primary, first, walk.weights.primary);
         second = add(&mut secondary, second, walk.weights.secondary);
         third = add(&mut tertiary, third, walk.weights.tertiary);
     }
-    write_rows(
+    Some(write_rows(
         &primary[..first],
         &secondary[..second],
         &tertiary[..third],
         room,
-    )
+    ))
 }
 
 // One weight more of a row of which so many were met, unless it is 0; how many there are then.

@@ -1,5 +1,6 @@
 // Sort keys of names under a checked table.
-ghost use Rattle.std.specs.Prelude.{◌≡◌, ◌-◌, ◌^◌, ◌<◌, length, vec_items};
+ghost use Rattle.std.specs.Prelude.{◌≡◌, ◌-◌, ◌*◌, ◌^◌, ◌<◌, ◌≤◌, length, vec_items};
+ghost use Rattle.keys.specs.Laws.{most_triples};
 ghost use Rattle.keys.specs.Making.{Made, Written, fits, saturated};
 ghost use Rattle.keys.specs.Rows.{key};
 ghost use Rattle.table.specs.Meaning.{rules_of};
@@ -47,12 +48,11 @@ impl SortKeys for Table<'_> {
         Ok(fill(self, name, room))
     }
 
-    #[tactic(auto, using(crate::proofs::Bounding::key_few, crate::proofs::Entering::key_most))]
     fn sort_key(&self, heap: Global, name: &[u8]) -> Result<Vec<u32>, KeyError> {
         if let Some(why) = NameRefusal::of(self.utf8(), name) {
             return Err(KeyError::Refused(why));
         }
-        let most = name.len().saturating_mul(3).saturating_add(2);
+        let most = name.len().saturating_mul(most_each(self)).saturating_add(2);
         let mut key = vec![in heap; 0; most]?;
         let numbers = fill(self, name, &mut key);
         key.truncate(numbers);
@@ -60,13 +60,20 @@ impl SortKeys for Table<'_> {
     }
 }
 
-// Whether a name's key fits into so much room. A key has at most three numbers for each letter and two between, so it is
+// How many numbers a letter gives a key at the most: one on each level, or three where letters weigh as three.
+fn most_each(table: &Table) -> usize
+    ensures { (result ≡ 3 * most_triples table.now) × (result ≤ 9) }
+{
+    if table.expansion_count() > 0 { 9 } else { 3 }
+}
+
+// Whether a name's key fits into so much room. A key has so many numbers for each letter at the most, and two between, so it is
 // only measured where that may be too many.
 pub(crate) fn has_room(table: &Table, name: &[u8], room: usize) -> Result<(), Short>
     requires { room < 2 ^ 64 - 1 }
     ensures { result ≡ fits (length (key (rules_of table.now) name.now)) room }
 {
-    if room >= 2 && name.len() <= (room - 2) / 3 {
+    if room >= 2 && name.len() <= (room - 2) / most_each(table) {
         return Ok(());
     }
     let needs = table.key_len(name);

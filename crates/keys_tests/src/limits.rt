@@ -93,7 +93,8 @@ fn any_bytes(rt: HostRuntime) -> Result<(), Fail> {
     own.add_letter(Letter {
         letter: 1,
         weights: Weights::from([7, 8, 9]),
-    })?;
+    }
+    .into())?;
     own.add_pair(Pair {
         first: 0,
         second: 0,

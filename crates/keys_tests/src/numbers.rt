@@ -1,5 +1,5 @@
 // Which numbers a name's key has.
-use keys::{KeyError, KeyNumbers, Level, Row, SortKeys};
+use keys::{KeyNumbers, Level, Row, Short, SortKeys};
 use std::alloc::Global;
 use std::process::Abort;
 use std::test::Fail;
@@ -9,18 +9,51 @@ use table::{Letter, Pair, Table, TableBuf, Weights};
 #[derive(Clone, Copy)]
 pub(crate) struct Case(pub(crate) &'static [u8], pub(crate) &'static [u32]);
 
-// The numbers come one after the other, are as many as measured, and are those that are made.
+// Such are the keys of these names.
 pub(crate) fn hold(
     rt: &impl Abort,
     heap: Global,
     table: &Table,
     cases: &[Case],
-) -> Result<(), KeyError> {
+) -> Result<(), Fail> {
     for case in cases {
-        assert!(rt; KeyNumbers::new(table, case.0).eq(case.1.iter().copied()));
-        assert_eq!(rt; table.key_len(case.0), case.1.len());
-        assert!(rt; table.sort_key(heap, case.0)?.as_slice() == case.1);
+        hold_key(rt, heap, table, case.0, case.1)?;
     }
+    Ok(())
+}
+
+// The numbers come one after the other, are as many as measured, and are those that are made and written, where there is room;
+// and the rows are those of the key.
+pub(crate) fn hold_key(
+    rt: &impl Abort,
+    heap: Global,
+    table: &Table,
+    name: &[u8],
+    key: &[u32],
+) -> Result<(), Fail> {
+    assert!(rt; KeyNumbers::new(table, name).eq(key.iter().copied()));
+    assert_eq!(rt; table.key_len(name), key.len());
+    assert!(rt; table.sort_key(heap, name)?.as_slice() == key);
+    let mut room = vec![in heap; 70000u32; key.len()]?;
+    if let Some((_, short)) = room.split_last_mut() {
+        assert_eq!(rt;
+            table.write_key(name, short),
+            Err(Short { needs: key.len() })
+        );
+    }
+    assert!(rt; room.iter().all(|number| *number == 70000));
+    assert_eq!(rt; table.write_key(name, &mut room), Ok(key.len()));
+    assert!(rt; room.as_slice() == key);
+    let mut rows = Vec::new(heap);
+    for level in Level::ALL {
+        if level != Level::Primary {
+            rows.push(0)?;
+        }
+        for weight in Row::new(table, level, name) {
+            rows.push(weight)?;
+        }
+    }
+    assert!(rt; rows.as_slice() == key);
     Ok(())
 }
 
@@ -77,7 +110,8 @@ fn own_table(rt: HostRuntime) -> Result<(), Fail> {
         own.add_letter(Letter {
             letter,
             weights: Weights::from(weights),
-        })?;
+        }
+        .into())?;
     }
     for (first, second, weights) in [
         (97, 97, [0, 7, 0]),

@@ -1,6 +1,5 @@
 // Runs of two, three and four letters: the longest that is met counts.
-use crate::numbers::{Case, hold};
-use keys::{KeyNumbers, SortKeys};
+use crate::numbers::{Case, hold, hold_key};
 use std::alloc::Global;
 use std::process::Abort;
 use std::test::Fail;
@@ -17,7 +16,8 @@ fn own(heap: Global, runs: &[Joined]) -> Result<TableBuf, AddError> {
         own.add_letter(Letter {
             letter,
             weights: Weights::from([place, 0, 0]),
-        })?;
+        }
+        .into())?;
     }
     for run in runs {
         add_run(&mut own, run.0, [run.1, 0, 0])?;
@@ -272,9 +272,7 @@ fn hold_times(
     key.extend_from_slice(end.1)?;
     key.extend_from_slice(&[0, 0])?;
     for table in [own.table(), own.table().in_utf8()] {
-        assert!(rt; table.sort_key(heap, &name)?.as_slice() == key.as_slice());
-        assert!(rt; KeyNumbers::new(&table, &name).eq(key.iter().copied()));
-        assert_eq!(rt; table.key_len(&name), key.len());
+        hold_key(rt, heap, &table, &name, &key)?;
     }
     Ok(())
 }

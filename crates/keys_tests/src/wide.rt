@@ -23,7 +23,8 @@ fn own(heap: Global) -> Result<TableBuf, Fail> {
         own.add_letter(Letter {
             letter,
             weights: Weights::from(weights),
-        })?;
+        }
+        .into())?;
     }
     for (first, second, weights) in [
         (353, 353, [65, 1, 2]),
@@ -217,7 +218,8 @@ fn longest_name(rt: HostRuntime) -> Result<(), Fail> {
     own.add_letter(Letter {
         letter: 8364,
         weights: Weights::from([1, 2, 3]),
-    })?;
+    }
+    .into())?;
     let table = own.table();
     let mut name = Vec::new(heap);
     for _ in 0..1000 {
@@ -274,7 +276,8 @@ fn any_bytes(rt: HostRuntime) -> Result<(), Fail> {
     own.add_letter(Letter {
         letter: 127,
         weights: Weights::from([7, 8, 9]),
-    })?;
+    }
+    .into())?;
     own.add_pair(Pair {
         first: 8364,
         second: 8364,

@@ -29,7 +29,8 @@ fn own(heap: Global) -> Result<TableBuf, Fail> {
         letters.push(Letter {
             letter,
             weights: first(weight),
-        })?;
+        }
+        .into())?;
     }
     Ok(TableBuf::of(
         &letters,
@@ -172,7 +173,8 @@ fn any_bytes(rt: HostRuntime) -> Result<(), Fail> {
     own.add_letter(Letter {
         letter: 127,
         weights: Weights::from([7, 8, 9]),
-    })?;
+    }
+    .into())?;
     for fourth in [None, Some(8364)] {
         own.add_long(Long {
             run: LongRun {

@@ -4,7 +4,7 @@ use Rattle.std.proofs.lemmas.List.{flat_map_more, take_more}
 use Rattle.std.proofs.lemmas.Option.{get_or_from_slice_get, slice_get-get_or, slice_get_within}
 use Rattle.std.specs.List.{slice_get}
 use Rattle.nullahbowl.specs.Writing.{entry_line, letter_line, letters_text, longs_text, pairs_text}
-use Rattle.table.specs.Rules.{Rules}
+use Rattle.table.specs.Rules.{Rules, letter_triples}
 use Rattle.pieces.specs.declared.piece.Long as long
 use Rattle.pieces.specs.declared.piece.Pair as pair
 use Rattle.texts.specs.declared.line.Entry.TheVariants.{Long, Pair}
@@ -13,7 +13,7 @@ pub letters_none : (t : Rules) → letters_text t 0 ≡ []
 unfolding letters_text
 letters_none t = refl
 
-pub letters_more : (t : Rules) (n : ℕ) → letters_text t (n + 1) ≡ letters_text t n ++ letter_line (record { letter = n; weights = t.weighs (n ∷ []) })
+pub letters_more : (t : Rules) (n : ℕ) → letters_text t (n + 1) ≡ letters_text t n ++ letter_line (record { letter = n; weights = letter_triples t n })
 unfolding letters_text
 letters_more t n = rw add-one refl
 

@@ -17,7 +17,7 @@ use Rattle.table.specs.declared.fault.Refusal.{Refusal}
 use Rattle.table.specs.Rules.{Rules, in_utf8, no_rules, with_pair, with_run}
 use Rattle.table.specs.Valley.{valley, valley_pairs}
 use Rattle.table.specs.declared.buffer.TableBuf.{TableBuf}
-use Rattle.pieces.specs.declared.piece.Letter.{Letter}
+use Rattle.pieces.specs.declared.piece.LetterEntry.{LetterEntry}
 use Rattle.pieces.specs.declared.piece.Long.{Long}
 use Rattle.pieces.specs.declared.piece.Pair.{Pair}
 use Rattle.pieces.specs.Ranks.{put_in}
@@ -124,7 +124,7 @@ all_named named [] = named
 all_named named (a ∷ ls) = all_named (slice_set named a true) ls
 
 -- a letter is entered, and named
-abbrev pub Weighed : Session → Letter → Result Unit TakeError → Session → Type 0
+abbrev pub Weighed : Session → LetterEntry → Result Unit TakeError → Session → Type 0
 Weighed s e r t =
     Entered (letter_refusal (entered_rules s) (entered_letters s) e) (with_entry (entered_rules s) e) (entered_pairs s) (entered_longs s)
     (all_named (entered_named s) (e.letter ∷ [])) s r t

@@ -3,9 +3,9 @@ use Rattle.std.specs.Prelude.{ℕ, zero, suc, ◌-◌, ◌^◌, cond, decimal, l
 use Rattle.std.specs.List.{flat_map}
 use Rattle.std.specs.Option.{unwrap_or}
 use Rattle.nullahbowl.specs.declared.argument.Options.{Options}
-use Rattle.table.specs.Rules.{Rules}
-use Rattle.pieces.specs.Runs.{counts}
-use Rattle.pieces.specs.declared.piece.Letter as letter
+use Rattle.table.specs.Rules.{Rules, letter_triples}
+use Rattle.pieces.specs.Runs.{counts_some}
+use Rattle.pieces.specs.declared.piece.LetterEntry.{LetterEntry}
 use Rattle.pieces.specs.declared.piece.Long as long
 use Rattle.pieces.specs.declared.piece.Pair as pair
 use Rattle.texts.specs.Written.{entry_text}
@@ -27,13 +27,13 @@ abbrev pub entry_line : Entry → List ℕ
 entry_line e = entry_text e ++ 10 ∷ []
 
 -- the line of a letter, if it weighs something
-abbrev pub letter_line : letter.Letter → List ℕ
-letter_line e = cond (counts e.weights) (entry_line (Letter e)) []
+abbrev pub letter_line : LetterEntry → List ℕ
+letter_line e = cond (counts_some e.weights) (entry_line (Letter e)) []
 
 -- the first n letters of a table that weigh something, in the order of their numbers, each as its line
 unfoldable pub letters_text : Rules → (n : ℕ) → List ℕ
 letters_text t zero = []
-letters_text t (suc n) = letters_text t n ++ letter_line (record { letter = n; weights = t.weighs (n ∷ []) })
+letters_text t (suc n) = letters_text t n ++ letter_line (record { letter = n; weights = letter_triples t n })
 
 -- pairs, each as its line
 abbrev pub pairs_text : List pair.Pair → List ℕ

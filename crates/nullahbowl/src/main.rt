@@ -25,7 +25,7 @@ const HELP: &str = "usage: nullahbowl [OPTION ..] [FILE ..]
 
 Reads lines from the files, or from standard input where none is named or the name is -:
 
-  letter X a b c     the letter X weighs a, b and c
+  letter X a b c     the letter X weighs a, b and c; with six or nine weights it weighs as two or three letters do
   pair X Y a b c     the letters X and Y are one together, and weigh a, b and c
   run X Y Z a b c    the same of two to four letters; the longest met counts. Any other line that begins with run is a name
   find X             writes the names that begin as X, in order

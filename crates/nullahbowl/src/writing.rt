@@ -9,7 +9,7 @@ use crate::argument::Options;
 use catalogue::NamesFound;
 use std::io;
 use std::io::Write;
-use table::{Letter, Table};
+use table::{LetterEntry, Table};
 use texts::Entry;
 
 // The names that are found, or how many there are.
@@ -48,14 +48,14 @@ fn write_letters<W: Write>(out: &mut W, table: &Table) -> io::Result<()>
     ensures { OnOk result (Appends (W.Write.contents out.old) (W.Write.contents out.new) (letters_text (rules_of table.now) 65536)) }
 {
     for letter in 0..=65_535u32 {
-        let weights = table.letter(letter);
-        write_letter(out, Letter { letter, weights })?;
+        let weights = table.triples(letter);
+        write_letter(out, LetterEntry { letter, weights })?;
     }
     Ok(())
 }
 
 // A letter, if it weighs something.
-fn write_letter<W: Write>(out: &mut W, letter: Letter) -> io::Result<()>
+fn write_letter<W: Write>(out: &mut W, letter: LetterEntry) -> io::Result<()>
     ensures { OnOk result (Appends (W.Write.contents out.old) (W.Write.contents out.new) (letter_line letter)) }
 {
     if !letter.weights.counts() {

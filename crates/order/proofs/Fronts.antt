@@ -1,17 +1,18 @@
 -- What names both begin with does not decide which is before the other.
 use Rattle.std.proofs.Common.{◌≡◌, ℕ, zero, suc, ◌+◌, ◌-◌, ◌<◌, ◌≤◌, Bool, true, false, cond, eqb, not, List, [], ◌∷◌, ◌++◌, drop, length, map, take, is_some, Some, Option, get_or, slice_index, ⊎_elim, subst, refl, sym, ap, ap₂, ◌∙◌, add-one, arith}
 use mathlib.Core.Path.{subst⁻¹}
-use Rattle.std.proofs.lemmas.List.{append-nil, length-append, length-drop, length-take-le, map-append, take-append-drop}
+use Rattle.std.proofs.lemmas.List.{append_assoc, append-nil, length-append, length-drop, length-take-le, map-append, take-append-drop}
 use Rattle.std.proofs.Math.Seq.{take-length}
 use Rattle.std.proofs.lemmas.Bool.{cases_lt, cond-true, true≢false}
 use Rattle.std.proofs.lemmas.Bool.Decides.{nat_tests}
 use Rattle.pieces.specs.declared.piece.Weights.{Weights}
-use Rattle.table.specs.Rules.{BeginsNone, Rules, contraction}
+use Rattle.table.specs.Rules.{BeginsNone, Rules, contraction, triples}
+use Rattle.keys.proofs.Bounding.{zeros_parted}
 use Rattle.keys.specs.Laws.{OnlyPairs, RunsFit}
 use Rattle.keys.specs.Pieces.{met, pieces, pieces_behind, taken}
 use Rattle.keys.proofs.Pieces.{met_short, met_there, taken_fits, taken_some}
 use Rattle.keys.specs.Letters.{begins_in, first_in, letters_in, one_byte}
-use Rattle.keys.specs.Rows.{row, row_of, rows, weight, without_zeros}
+use Rattle.keys.specs.Rows.{on, row, row_of, rows, weighed, without_zeros}
 use Rattle.keys.proofs.Lettering.{no_letters, parted_in, read_first, small_first, starts_in}
 use Rattle.keys.specs.declared.level.Level.{Level}
 use Rattle.keys.specs.declared.level.Level.TheVariants.{Primary, Secondary, Tertiary}
@@ -248,10 +249,10 @@ apart t run o b e f g = go (t.joins run) refl
     go false q = refl
     go true q = absurd (true≢false (sym (ap is_some (e ∙ cond-true _ _ _ q)) ∙ (f ∙ ap not g)))
 
-zeros_parted : (xs ys : List ℕ) → without_zeros (xs ++ ys) ≡ without_zeros xs ++ without_zeros ys
-unfolding without_zeros
-zeros_parted [] ys = refl
-zeros_parted (x ∷ xs) ys = let ih = zeros_parted xs ys in grind (arith, nat_tests)
+weighed_parted : (t : Rules) (ps qs : List (List ℕ)) → weighed t (ps ++ qs) ≡ weighed t ps ++ weighed t qs
+unfolding weighed
+weighed_parted t [] qs = refl
+weighed_parted t (p ∷ ps) qs = ap (λ ws. triples t p ++ ws) (weighed_parted t ps qs) ∙ sym (append_assoc (triples t p) (weighed t ps) (weighed t qs))
 
 module _ (l : Level) (t : Rules) where
   row_parted : (x : List ℕ) (n : ℕ) → MayCut t x n → row l t x ≡ row l t (take n x) ++ row l t (drop n x)
@@ -259,9 +260,10 @@ module _ (l : Level) (t : Rules) where
   row_parted x n c =
       let p = letters_in t.utf8 (take n x) in
       let q = letters_in t.utf8 (drop n x) in
-      ap (λ y. without_zeros (map (weight l t) (pieces t.joins y))) c.letters
-      ∙ (ap (λ ps. without_zeros (map (weight l t) ps)) (parted t.joins p q c.pieces)
-      ∙ (ap without_zeros (map-append (weight l t) (pieces t.joins p) (pieces t.joins q)) ∙ zeros_parted _ _))
+      ap (λ y. without_zeros (map (on l) (weighed t (pieces t.joins y)))) c.letters
+      ∙ (ap (λ ps. without_zeros (map (on l) (weighed t ps))) (parted t.joins p q c.pieces)
+      ∙ (ap (λ ws. without_zeros (map (on l) ws)) (weighed_parted t (pieces t.joins p) (pieces t.joins q))
+      ∙ (ap without_zeros (map-append (on l) (weighed t (pieces t.joins p)) (weighed t (pieces t.joins q))) ∙ zeros_parted _ _)))
 
 -- nothing is shared
 pub none_shared : (t : Rules) (a b : List ℕ) (n : ℕ) → n ≤ 0 → Shared t a b n

@@ -8,7 +8,7 @@ use Rattle.std.proofs.lemmas.Cmp.{nat_list_cmp_total, tied_itself}
 use Rattle.keys.specs.declared.level.Level.TheVariants.{Primary, Secondary}
 use Rattle.keys.specs.Pieces.{pieces_behind}
 use Rattle.keys.specs.Letters.{letters_in}
-use Rattle.keys.specs.Rows.{key, row, row_of, rows, without_zeros}
+use Rattle.keys.specs.Rows.{key, row, row_of, rows, weighed, without_zeros}
 use Rattle.keys.proofs.Bounding.{row_free}
 use Rattle.table.specs.Rules.{Rules}
 use Rattle.order.specs.Rows.{FreeButLast, before, row_order}
@@ -55,7 +55,7 @@ standings_agree t a asked = (
 )
 
 pub valley_order : ValleyOrder
-unfolding pieces_behind without_zeros letters_in row_of row key
+unfolding pieces_behind weighed without_zeros letters_in row_of row key
 valley_order = (refl, refl, refl, refl, refl, refl)
 
 apart : (t : Rules) (ns : List (List ℕ)) → InOrder t ns → (i j : ℕ) → i ≤ j → j < length ns

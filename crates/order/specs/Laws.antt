@@ -7,7 +7,7 @@ use Rattle.keys.specs.declared.level.Level.{Level}
 use Rattle.keys.specs.declared.level.Level.TheVariants.{Primary}
 use Rattle.order.specs.declared.collate.Standing.TheVariants.{Before, After}
 use Rattle.order.specs.Names.{along, name_before, name_order, standing}
-use Rattle.order.specs.Newer.{Keeps, KeepsNames, SameRuns, Scaled}
+use Rattle.order.specs.Newer.{Keeps, KeepsNames, SameMany, SameRuns, Scaled, old_piece}
 use Rattle.order.specs.Rows.{FreeButLast, before, begins, by_levels, row_order}
 use Rattle.table.specs.Rules.{Rules}
 use Rattle.table.specs.Valley.{valley}
@@ -108,10 +108,12 @@ ReadBack = (t u : Rules) (a b : List ℕ) → key t a ≡ key u b → rows t a �
 abbrev pub NewerTables : Type 0
 NewerTables = (old : ℕ → Bool) (t u : Rules) → Keeps old t u → KeepsNames old t u
 
--- the same where both read bytes the same way, the same runs of old letters are one, and the weights of both tables rise onto a
--- common scale on each level
+-- the same where both read bytes the same way, the same runs of old letters are one, old pieces have as many triples of weights,
+-- and the weights of both tables rise onto a common scale on each level
 abbrev pub NewerByScales : Type 0
-NewerByScales = (old : ℕ → Bool) (t u : Rules) → u.utf8 ≡ t.utf8 → SameRuns old t u → ((l : Level) → Scaled old t u l) → KeepsNames old t u
+NewerByScales =
+    (old : ℕ → Bool) (t u : Rules) → u.utf8 ≡ t.utf8 → SameRuns old t u → ((p : List ℕ) → old_piece old t p ≡ true → SameMany t u p) →
+    ((l : Level) → Scaled old t u l) → KeepsNames old t u
 
 -- all of these
 pub record OrderLaws : Type 0 where

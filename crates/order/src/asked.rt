@@ -22,7 +22,7 @@ pub struct Asked<'a, 't, 'q> {
 }
 
 impl<'a, 't, 'q> Asked<'a, 't, 'q> {
-    // How many letters a question has at the most whose row is stored.
+    // How many bytes a question has at the most whose row is stored, and how many weights that row.
     const SHORT: usize = 32;
 
     pub fn new(table: &'a Table<'t>, ask: &'q [u8]) -> Asked<'a, 't, 'q>
@@ -30,10 +30,14 @@ impl<'a, 't, 'q> Asked<'a, 't, 'q> {
     {
         let mut weights = [0; 32];
         let mut count = 0;
-        let stored = ask.len() <= Self::SHORT;
+        let mut stored = ask.len() <= Self::SHORT;
         if stored {
             for weight in Row::new(table, Level::Primary, ask) {
-                count = store(&mut weights, count, weight as u16);
+                if count < Self::SHORT {
+                    count = store(&mut weights, count, weight as u16);
+                } else {
+                    stored = false;
+                }
             }
         }
         Asked {

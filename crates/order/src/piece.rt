@@ -2,11 +2,12 @@
 ghost use Rattle.std.specs.Prelude.{◌≡◌, ◌+◌, ◌-◌, length, slice_index_or, false};
 ghost use Rattle.std.specs.Iterator.{at_most};
 ghost use Rattle.std.specs.List.{list_all};
-ghost use Rattle.pieces.specs.Runs.{long_letters};
-ghost use Rattle.order.specs.Pieces.{NextPiece, PieceAt, run_in, old_in, piece_weights, places};
+ghost use Rattle.std.specs.Option.{option_map};
+ghost use Rattle.pieces.specs.Runs.{long_letters, nothing};
+ghost use Rattle.order.specs.Pieces.{NextPiece, PieceAt, old_in, parts, piece_triples, places, run_contraction, run_in};
 ghost use Rattle.table.specs.Meaning.{rules_of};
 
-use table::{LongRun, Table, Weights};
+use table::{Expanded, LongRun, Table, Weights};
 
 // A letter, or two, three or four letters that are one together.
 #[derive(Clone, Copy, PartialEq, Eq, Debug)]
@@ -17,13 +18,65 @@ pub enum Piece {
     Four(u32, u32, u32, u32),
 }
 
+// What a piece weighs: its own triple of weights, and behind it those that a letter expands to.
+#[derive(Clone, Copy)]
+pub(crate) struct Parts {
+    own: Weights,
+    expanded: Option<Expanded>,
+}
+
+impl Parts {
+    // How many triples these are.
+    pub(crate) fn count(&self) -> usize
+        ensures { result ≡ length (parts self.now) }
+    {
+        match self.expanded {
+            None => 1,
+            Some(expanded) if expanded.third.is_some() => 4,
+            Some(_) => 3,
+        }
+    }
+
+    // The triple at a place, counted from 0; nothing behind the last.
+    pub(crate) fn get(&self, place: usize) -> Weights
+        ensures { result ≡ slice_index_or (parts self.now) place nothing }
+    {
+        match (place, self.expanded) {
+            (0, _) => self.own,
+            (1, Some(expanded)) => expanded.first,
+            (2, Some(expanded)) => expanded.second,
+            (3, Some(expanded)) => expanded.third.unwrap_or(Weights::from([0, 0, 0])),
+            _ => Weights::from([0, 0, 0]),
+        }
+    }
+}
+
 impl Piece {
     // What it weighs under a table; nothing where it is letters that are not one there.
-    pub(crate) fn weights(self, table: &Table) -> Option<Weights>
-        ensures { result ≡ piece_weights (rules_of table.now) (run_in self) }
+    pub(crate) fn parts(self, table: &Table) -> Option<Parts>
+        ensures { option_map parts result ≡ piece_triples (rules_of table.now) (run_in self) }
     {
         match self {
-            Piece::Letter(letter) => Some(table.letter(letter)),
+            Piece::Letter(letter) => Some(Parts {
+                own: table.letter(letter),
+                expanded: table.expansion(letter),
+            }),
+            _ => {
+                let own = self.run_weights(table)?;
+                Some(Parts {
+                    own,
+                    expanded: None,
+                })
+            }
+        }
+    }
+
+    // What a run weighs, where its letters are one together; and no letter alone.
+    fn run_weights(self, table: &Table) -> Option<Weights>
+        ensures { result ≡ run_contraction (rules_of table.now) (run_in self) }
+    {
+        match self {
+            Piece::Letter(_) => None,
             Piece::Pair(first, second) => table.pair(first, second),
             Piece::Three(first, second, third) => table.long(LongRun {
                 first,
@@ -79,14 +132,14 @@ fn is_marked(marks: &[bool], letter: u32) -> bool
     (letter as usize) < marks.len() && marks[letter as usize]
 }
 
-// The pieces that a table lists, and that are of old letters: letters first, then pairs, then longer runs. Other
-// letters weigh nothing.
+// The pieces that a table lists, and that are of old letters: letters first, then pairs, then longer runs, and last the letters
+// that weigh as two or three. Other letters weigh nothing.
 #[derive(Drop)]
 pub(crate) struct OldPieces<'a, 't> {
     table: &'a Table<'t>,
     old: &'a [bool],
-    // Where to look next: the letters that the table lists have the first places, the pairs those behind, and the longer runs the
-    // last.
+    // Where to look next: the letters that the table lists have the first places, the pairs those behind, then the longer runs, and
+    // the letters that weigh as two or three the last.
     place: usize,
 }
 
@@ -107,13 +160,17 @@ impl<'a, 't> OldPieces<'a, 't> {
     {
         let letters = self.table.letter_count();
         let pairs = self.table.pair_count();
+        let longs = self.table.long_count();
         let piece = if place < letters {
             Piece::Letter(self.table.letter_at(place)?.letter)
         } else if place - letters < pairs {
             let pair = self.table.pair_at(place - letters)?;
             Piece::Pair(pair.first, pair.second)
-        } else {
+        } else if place - letters - pairs < longs {
             Piece::from(self.table.long_at(place - letters - pairs)?.run)
+        } else {
+            let expansion = self.table.expansion_at(place - letters - pairs - longs)?;
+            Piece::Letter(expansion.letter)
         };
         piece.is_old(self.old).then_some(piece)
     }
@@ -127,7 +184,10 @@ impl Iterator for OldPieces<'_, '_> {
     ghost remaining = { λ s. at_most (places s.table.now - s.place) };
 
     fn next(&mut self) -> Option<Piece> {
-        let end = self.table.letter_count() + self.table.pair_count() + self.table.long_count();
+        let end = self.table.letter_count()
+            + self.table.pair_count()
+            + self.table.long_count()
+            + self.table.expansion_count();
         while self.place < end {
             let piece = self.at(self.place);
             self.place += 1;

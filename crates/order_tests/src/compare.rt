@@ -1,11 +1,12 @@
 // Which of two names is before the other.
+use crate::entries::entry;
 use keys::SortKeys;
 use order::Collate;
 use std::alloc::Global;
 use std::cmp::Ordering;
 use std::process::Abort;
 use std::test::Fail;
-use table::{Letter, Table, TableBuf, Weights};
+use table::{Table, TableBuf};
 
 // Of these names each is before all those behind it, and their keys say so too.
 pub(crate) fn in_order(
@@ -57,10 +58,7 @@ fn same_keys(rt: HostRuntime) {
 fn ignored_letters(rt: HostRuntime) -> Result<(), Fail> {
     let mut own = TableBuf::new(rt.alloc())?;
     for (letter, weights) in [(97, [1, 1, 1]), (98, [2, 0, 0])] {
-        own.add_letter(Letter {
-            letter,
-            weights: Weights::from(weights),
-        })?;
+        own.add_letter(entry(letter, weights))?;
     }
     let table = own.table();
     assert_eq!(rt; table.compare(b"xa", b"a"), Ordering::Equal);

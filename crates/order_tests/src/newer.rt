@@ -1,27 +1,13 @@
 // What a newer table keeps, and what has changed.
+use crate::entries::{entry, pair};
 use keys::Level;
 use order::{Change, Collate, Piece, keeps_order};
 use std::alloc::Global;
 use std::cmp::Ordering;
 use std::test::Fail;
-use table::{Letter, Pair, Table, TableBuf, Weights};
+use table::{Table, TableBuf};
 
 const LETTERS: &[u8] = b"abc";
-
-fn entry(letter: u32, weights: [u16; 3]) -> Letter {
-    Letter {
-        letter,
-        weights: Weights::from(weights),
-    }
-}
-
-fn pair(first: u32, second: u32, weights: [u16; 3]) -> Pair {
-    Pair {
-        first,
-        second,
-        weights: Weights::from(weights),
-    }
-}
 
 // a, b and c.
 fn letters(heap: Global) -> Result<TableBuf, Fail> {
@@ -49,7 +35,8 @@ fn other(heap: Global, letter: u32, weights: [u16; 3]) -> Result<TableBuf, Fail>
     Ok(table)
 }
 
-fn marked(letters: &[u8]) -> [bool; 256] {
+// The letters of a name are old.
+pub(crate) fn marked(letters: &[u8]) -> [bool; 256] {
     let mut old = [false; 256];
     for letter in letters {
         old[*letter as usize] = true;

@@ -1,25 +1,12 @@
 // What a newer table keeps of runs of three and four letters.
+use crate::entries::{entry, pair};
+use crate::newer::marked;
 use crate::runs::{four, three};
 use keys::Level;
 use order::{Change, Collate, Piece, keeps_order};
 use std::alloc::Global;
 use std::test::Fail;
-use table::{AddError, Letter, Long, Pair, Run, TableBuf, Weights};
-
-fn letter(letter: u32, weights: [u16; 3]) -> Letter {
-    Letter {
-        letter,
-        weights: Weights::from(weights),
-    }
-}
-
-fn pair(first: u32, second: u32, weights: [u16; 3]) -> Pair {
-    Pair {
-        first,
-        second,
-        weights: Weights::from(weights),
-    }
-}
+use table::{AddError, Long, Run, TableBuf, Weights};
 
 // abc and abcd.
 const ABC: [u32; 3] = [97, 98, 99];
@@ -30,7 +17,7 @@ const ABCD: [u32; 4] = [97, 98, 99, 100];
 fn letters(heap: Global) -> Result<TableBuf, AddError> {
     let mut table = TableBuf::new(heap)?;
     for (one, primary) in [(97, 10), (98, 20), (99, 30), (100, 40)] {
-        table.add_letter(letter(one, [primary, 1, 1]))?;
+        table.add_letter(entry(one, [primary, 1, 1]))?;
     }
     table.add_pair(pair(99, 100, [33, 1, 1]))?;
     Ok(table)
@@ -46,14 +33,6 @@ fn runs(heap: Global, abc: [u16; 3], abcd: [u16; 3]) -> Result<TableBuf, AddErro
 
 fn older(heap: Global) -> Result<TableBuf, AddError> {
     runs(heap, [31, 1, 0], [35, 2, 1])
-}
-
-fn marked(letters: &[u8]) -> [bool; 256] {
-    let mut old = [false; 256];
-    for letter in letters {
-        old[*letter as usize] = true;
-    }
-    old
 }
 
 // A run, the piece that it is, and its letters.
@@ -176,7 +155,7 @@ fn told_first(rt: HostRuntime) -> Result<(), Fail> {
     let mut newer = runs(rt.alloc(), [0, 0, 0], [1, 1, 1])?;
     let abcd = Err(Change::Joins(Piece::Four(97, 98, 99, 100)));
     assert_eq!(rt; keeps_order(&older.table(), &newer.table(), &all), abcd);
-    newer.add_letter(letter(101, [1, 1, 1]))?;
+    newer.add_letter(entry(101, [1, 1, 1]))?;
     let old = marked(b"abcde");
     assert_eq!(rt; keeps_order(&older.table(), &newer.table(), &old), abcd);
     assert_eq!(rt;
@@ -199,9 +178,9 @@ fn keeps(rt: HostRuntime) -> Result<(), Fail> {
     let older = older(rt.alloc())?;
     let mut newer = TableBuf::new(rt.alloc())?;
     for (one, primary) in [(97, 100), (98, 200), (99, 300), (100, 400)] {
-        newer.add_letter(letter(one, [primary, 7, 3]))?;
+        newer.add_letter(entry(one, [primary, 7, 3]))?;
     }
-    newer.add_letter(letter(101, [150, 0, 4]))?;
+    newer.add_letter(entry(101, [150, 0, 4]))?;
     newer.add_pair(pair(99, 100, [330, 7, 3]))?;
     newer.add_pair(pair(97, 101, [1, 1, 1]))?;
     for long in [
@@ -242,7 +221,7 @@ fn keeps(rt: HostRuntime) -> Result<(), Fail> {
 fn large(heap: Global, three: u16, four: u16) -> Result<TableBuf, Fail> {
     let mut letters = Vec::new(heap);
     for (one, primary) in [(65535, 40), (353, 30), (97, 10), (351, 20)] {
-        letters.push(letter(one, [primary, 0, 0]))?;
+        letters.push(entry(one, [primary, 0, 0]))?;
     }
     Ok(TableBuf::of(
         &letters,

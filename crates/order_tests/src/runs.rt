@@ -1,12 +1,13 @@
 // Names compared where up to four letters may be one.
 use crate::compare::in_order;
+use crate::entries::entry;
 use keys::SortKeys;
 use order::{Asked, Collate, Standing};
 use std::alloc::{AllocError, Global};
 use std::cmp::Ordering;
 use std::process::Abort;
 use std::test::Fail;
-use table::{AddError, Letter, Long, LongRun, Pair, Table, TableBuf, Weights};
+use table::{AddError, Long, LongRun, Pair, Table, TableBuf, Weights};
 
 // What weighs so on the first level alone.
 fn first(primary: u16) -> Weights {
@@ -39,10 +40,7 @@ pub(crate) fn four(letters: [u32; 4], weights: Weights) -> Long {
 fn alphabet(heap: Global) -> Result<TableBuf, AddError> {
     let mut own = TableBuf::new(heap)?;
     for (letter, place) in (97..123).zip(1..27) {
-        own.add_letter(Letter {
-            letter,
-            weights: first(place),
-        })?;
+        own.add_letter(entry(letter, [place, 0, 0]))?;
     }
     Ok(own)
 }

@@ -1,7 +1,8 @@
 // Where names stand to what is asked.
+use crate::entries::entry;
 use order::{Collate, Standing};
 use std::test::Fail;
-use table::{Letter, Pair, Table, TableBuf, Weights};
+use table::{Pair, Table, TableBuf, Weights};
 
 // What is asked, and how many names are before it and how many begin with it.
 #[derive(Clone, Copy)]
@@ -51,10 +52,7 @@ fn valley(rt: HostRuntime) {
 fn own_table(rt: HostRuntime) -> Result<(), Fail> {
     let mut own = TableBuf::new(rt.alloc())?;
     for (letter, weights) in [(97, [2, 0, 0]), (98, [0, 1, 1])] {
-        own.add_letter(Letter {
-            letter,
-            weights: Weights::from(weights),
-        })?;
+        own.add_letter(entry(letter, weights))?;
     }
     own.add_pair(Pair {
         first: 98,

@@ -1,11 +1,12 @@
 // Names in UTF-8 compared.
 use crate::compare::in_order;
+use crate::entries::entry;
 use keys::SortKeys;
 use order::{Asked, Collate, Standing};
 use std::alloc::Global;
 use std::cmp::Ordering;
 use std::test::Fail;
-use table::{Letter, Pair, Table, TableBuf, Weights};
+use table::{Pair, Table, TableBuf, Weights};
 
 // a, u, z; 252 (C3 BC), which weighs as u but on the second level; 351 (C5 9F) and 353 (C5 A1) between u and z; 8364 and 8365
 // (E2 82 AC and AD) behind z. Two letters 353 are one together, and 8365 with a.
@@ -21,10 +22,7 @@ fn own(heap: Global) -> Result<TableBuf, Fail> {
         (8364, [60, 1, 1]),
         (8365, [70, 1, 1]),
     ] {
-        own.add_letter(Letter {
-            letter,
-            weights: Weights::from(weights),
-        })?;
+        own.add_letter(entry(letter, weights))?;
     }
     for (first, second, weights) in [(353, 353, [45, 1, 1]), (8365, 97, [5, 1, 1])] {
         own.add_pair(Pair {

@@ -1,10 +1,11 @@
 // Names in UTF-8 compared where up to four letters may be one.
 use crate::compare::in_order;
+use crate::entries::entry;
 use keys::SortKeys;
 use order::{Asked, Collate, Standing};
 use std::alloc::Global;
 use std::test::Fail;
-use table::{Letter, Run, TableBuf, Weights};
+use table::{Run, TableBuf, Weights};
 
 // a, and on the first level alone 351 (C5 9F), 353 (C5 A1), 8364 (E2 82 AC) and 8365 (E2 82 AD), which have their first bytes in
 // common. Three letters 353 are one, and a, 353, 8364 and 8365.
@@ -17,10 +18,7 @@ fn own(heap: Global) -> Result<TableBuf, Fail> {
         (8364, [60, 0, 0]),
         (8365, [70, 0, 0]),
     ] {
-        letters.push(Letter {
-            letter,
-            weights: Weights::from(weights),
-        })?;
+        letters.push(entry(letter, weights))?;
     }
     Ok(TableBuf::of(
         &letters,

@@ -1,8 +1,15 @@
--- What pieces weigh, and runs of three and four letters.
+-- What pieces weigh, letters that weigh as two or three, and runs of three and four letters.
 use Rattle.std.specs.Prelude.{ℕ, ◌+◌, ◌*◌, Bool, true, false, cond, not, ◌&&◌, List, [], ◌∷◌, is_some, Some, None, Option, ◌==◌, slice_index}
+use Rattle.std.specs.List.{list_any}
+use Rattle.std.specs.Option.{option_map}
+use Rattle.pieces.specs.Ranks.{at_rank}
+use Rattle.pieces.specs.declared.piece.Expanded.{Expanded}
+use Rattle.pieces.specs.declared.piece.Expansion.{Expansion}
 use Rattle.pieces.specs.declared.piece.Letter.{Letter}
 use Rattle.pieces.specs.declared.piece.Long.{Long}
 use Rattle.pieces.specs.declared.piece.LongRun.{LongRun}
+use Rattle.pieces.specs.declared.piece.Triples.{Triples}
+use Rattle.pieces.specs.declared.piece.Triples.TheVariants.{Excess, One, Several}
 use Rattle.pieces.specs.declared.piece.Weights.{Weights}
 
 -- ignorable on every level
@@ -17,7 +24,7 @@ weights_at xs i = record { primary = slice_index xs i; secondary = slice_index x
 abbrev pub counts : Weights → Bool
 counts w = not (w.primary == 0 && (w.secondary == 0 && w.tertiary == 0))
 
--- entries of letters stand in the order of their letters
+-- letters stand in the order of their numbers
 abbrev pub letter_rank : Letter → ℕ
 letter_rank e = e.letter
 
@@ -29,9 +36,43 @@ same_run (a ∷ xs) [] = false
 same_run (a ∷ xs) (b ∷ ys) = a == b && same_run xs ys
 
 -- one letter, or none
-abbrev pub one_or_none : Option ℕ → List ℕ
+abbrev pub one_or_none : {A : Type 0} → Option A → List A
 one_or_none None = []
 one_or_none (Some d) = d ∷ []
+
+-- what a letter weighs that weighs as two or three, one behind the other
+abbrev pub expanded : Expanded → List Weights
+expanded e = e.first ∷ (e.second ∷ one_or_none e.third)
+
+-- entries of such letters stand in the order of their letters
+abbrev pub expansion_rank : Expansion → ℕ
+expansion_rank e = e.letter
+
+-- what such a letter weighs, where it is one of these; nothing where it is none
+abbrev pub expanded_if : Option Expanded → List Weights
+expanded_if None = []
+expanded_if (Some e) = expanded e
+
+abbrev pub expanded_among : List Expansion → ℕ → List Weights
+expanded_among es a = expanded_if (option_map (λ e. e.weights) (at_rank expansion_rank es a))
+
+-- one of the triples counts; more than three are taken to
+abbrev pub counts_some : Triples → Bool
+counts_some (One w) = counts w
+counts_some (Several e) = list_any counts (expanded e)
+counts_some Excess = true
+
+-- the weights of a letter that weighs as one
+abbrev pub alone : Triples → Weights
+alone (One w) = w
+alone (Several e) = nothing
+alone Excess = nothing
+
+-- those of one that weighs as two or three
+abbrev pub several : Triples → List Weights
+several (One w) = []
+several (Several e) = expanded e
+several Excess = []
 
 -- the letters of a run
 abbrev pub long_letters : LongRun → List ℕ

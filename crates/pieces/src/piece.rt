@@ -1,6 +1,8 @@
 // What a letter weighs, and letters that are one together.
 ghost use Rattle.std.specs.Prelude.{◌≡◌};
-ghost use Rattle.pieces.specs.Runs.{counts, letter_rank, long_letters, long_rank, rank_of, same_run, weights_at};
+ghost use Rattle.std.specs.List.{list_any};
+ghost use Rattle.pieces.specs.declared.piece.Triples.TheVariants.{One, Several};
+ghost use Rattle.pieces.specs.Runs.{counts, counts_some, expanded, expansion_rank, letter_rank, long_letters, long_rank, rank_of, same_run, weights_at};
 
 use crate::ranks::Ranked;
 
@@ -35,7 +37,7 @@ impl From<[u16; 3]> for Weights {
     }
 }
 
-// A letter and what it weighs: an entry of a table.
+// A letter and what it weighs.
 #[derive(Clone, Copy, PartialEq, Eq, Debug)]
 pub struct Letter {
     pub letter: u32,
@@ -47,6 +49,91 @@ impl Ranked for Letter {
 
     fn rank(self) -> u64 {
         self.letter as u64
+    }
+}
+
+// What a letter weighs that weighs as two or three, one behind the other.
+#[derive(Clone, Copy, PartialEq, Eq, Debug)]
+pub struct Expanded {
+    pub first: Weights,
+    pub second: Weights,
+    pub third: Option<Weights>,
+}
+
+impl Expanded {
+    // Whether one of them counts.
+    pub fn counts(self) -> bool
+        ensures { result ≡ list_any counts (expanded self) }
+    {
+        self.first.counts() || self.second.counts() || self.third.is_some_and(Weights::counts)
+    }
+}
+
+// A letter that weighs as two or three, as ligatures do (an expansion).
+#[derive(Clone, Copy, PartialEq, Eq, Debug)]
+pub struct Expansion {
+    pub letter: u32,
+    pub weights: Expanded,
+}
+
+impl Ranked for Expansion {
+    ghost rank = { expansion_rank };
+
+    fn rank(self) -> u64 {
+        u64::from(self.letter)
+    }
+}
+
+// Triples of weights, one behind the other.
+#[derive(Clone, Copy, PartialEq, Eq, Debug)]
+pub enum Triples {
+    One(Weights),
+    Several(Expanded),
+    // More than three: no letter weighs so.
+    Excess,
+}
+
+impl Triples {
+    // Whether one of them counts; more than three are taken to.
+    pub fn counts(self) -> bool
+        ensures { result ≡ counts_some self }
+    {
+        match self {
+            Triples::One(weights) => weights.counts(),
+            Triples::Several(expanded) => expanded.counts(),
+            Triples::Excess => true,
+        }
+    }
+}
+
+// A letter that is entered in a table, and what it weighs there.
+#[derive(Clone, Copy, PartialEq, Eq, Debug)]
+pub struct LetterEntry {
+    pub letter: u32,
+    pub weights: Triples,
+}
+
+// A letter that weighs as one.
+impl From<Letter> for LetterEntry {
+    ghost from_gives = { λ e r. r ≡ record { letter = e.letter; weights = One e.weights } };
+
+    fn from(letter: Letter) -> LetterEntry {
+        LetterEntry {
+            letter: letter.letter,
+            weights: Triples::One(letter.weights),
+        }
+    }
+}
+
+// One that weighs as two or three.
+impl From<Expansion> for LetterEntry {
+    ghost from_gives = { λ e r. r ≡ record { letter = e.letter; weights = Several e.weights } };
+
+    fn from(expansion: Expansion) -> LetterEntry {
+        LetterEntry {
+            letter: expansion.letter,
+            weights: Triples::Several(expansion.weights),
+        }
     }
 }
 

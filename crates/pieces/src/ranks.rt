@@ -1,6 +1,6 @@
 // Lists in the order of a rank.
 ghost use Rattle.std.specs.Prelude.{◌≡◌, ◌≤◌, ℕ, length, true};
-ghost use Rattle.pieces.specs.Ranks.{below, rises};
+ghost use Rattle.pieces.specs.Ranks.{at_rank, below, climbs, rises};
 
 // What has a rank.
 pub trait Ranked: Copy {
@@ -27,4 +27,14 @@ pub fn place_for<T: Ranked>(items: &[T], rank: u64) -> usize
         }
     }
     low
+}
+
+// What has a rank, where each is above those in front of it; it may be missed where they are in no order.
+pub fn find_ranked<T: Ranked>(items: &[T], rank: u64) -> Option<T>
+    ensures { climbs T.rank items.now ≡ true → result ≡ at_rank T.rank items.now rank }
+{
+    match items.get(place_for(items, rank)) {
+        Some(item) if item.rank() == rank => Some(*item),
+        _ => None,
+    }
 }

@@ -140,7 +140,7 @@ module _ (u : Bool) (ps : List ℕ) (n : ℕ) (p : Pair) (fives : length ps ≡ 
     weighs_more (a ∷ (b ∷ (c ∷ run))) = grind (arith, nat_tests)
 
     pub rules_more : rules_by u ls os (ps ++ numbers_of p) (n + 1) ≡ with_pair (rules_by u ls os ps n) p
-    rules_more = same_rules (rules_by u ls os (ps ++ numbers_of p) (n + 1)) (with_pair (rules_by u ls os ps n) p) joins_more weighs_more refl
+    rules_more = same_rules (rules_by u ls os (ps ++ numbers_of p) (n + 1)) (with_pair (rules_by u ls os ps n) p) joins_more weighs_more (λ run. refl) refl
 
 -- the numbers of a table of bytes with the pair behind are turned away just as the pair is
 module _ (ls ps : List ℕ) (n : ℕ) (p : Pair) (fives : length ps ≡ 5 * n) where

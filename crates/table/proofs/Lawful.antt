@@ -4,23 +4,27 @@ use Rattle.std.proofs.lemmas.Bool.{and_parts, or_from, le-ltb, lt-ltb, cases_Boo
 use Rattle.std.proofs.lemmas.Option.{none-some, same_Some, slice_get-get_or}
 use Rattle.std.proofs.lemmas.Bool.Decides.{nat_tests}
 use Rattle.std.proofs.lemmas.List.FromFn.{length-map-range_with_len, get_or-map-range_with_len}
-use Rattle.std.specs.List.{list_all, range_with_len, slice_get}
+use Rattle.std.specs.List.{range_with_len, slice_get}
 use Rattle.table.specs.declared.fault.Refusal.TheVariants.{Foreign, Twice}
+use Rattle.pieces.specs.declared.piece.Expansion.{Expansion}
 use Rattle.pieces.specs.declared.piece.Letter.{Letter}
+use Rattle.pieces.specs.Ranks.{at_rank}
+use Rattle.pieces.proofs.Ranking.{climbing, its_rank}
+use Rattle.std.specs.Option.{option_map}
 use Rattle.pieces.specs.declared.piece.Long.{Long}
 use Rattle.pieces.specs.declared.piece.LongRun.{LongRun}
 use Rattle.pieces.specs.declared.piece.Pair.{Pair}
-use Rattle.pieces.specs.Runs.{long_among, long_letters, none_twice, one_or_none, weights_at, counts}
+use Rattle.pieces.specs.Runs.{expanded, expanded_if, expansion_rank, letter_rank, long_among, long_letters, none_twice, one_or_none, weights_at, counts}
 use Rattle.pieces.proofs.Finding.{long_has, long_listed}
 use Rattle.table.specs.declared.view.Table.{Table}
-use Rattle.table.specs.Laws.{IsLongOf, IsPairOf, SamePair, KnownPair, ExactlyTables, FirstForeign, FirstTwice, HeldAreTables, JustPairs, LettersListed, LettersWeigh, RunsFit, RunsListed, SameRefusal, ValleySays}
-use Rattle.table.specs.Meaning.{letters_in, letters_of, longs_of, pairs_of, rules_of}
+use Rattle.table.specs.Laws.{IsLongOf, IsPairOf, SamePair, KnownPair, ExactlyTables, FirstForeign, FirstTwice, ExpansionsListed, HeldAreTables, JustPairs, LettersListed, LettersWeigh, RunsFit, RunsListed, SameRefusal, ValleySays}
+use Rattle.table.specs.Meaning.{expansions_of, letters_in, letters_of, longs_of, pairs_of, rules_of}
 use Rattle.table.specs.Numbers.{first_at, second_at, pair_at, place_in}
 use Rattle.table.specs.Refusals.{first_place, foreign, known_long, last_letter, repeated, refusal_of}
-use Rattle.table.specs.Entries.{ascends, is_other}
+use Rattle.table.specs.Entries.{is_other}
 use Rattle.utf8.specs.Letters.{is_letter}
-use Rattle.table.specs.Rules.{Rules, contraction, longs_join, joins_in, letter_weighs, rules_by, rules_in, weighs_in, weights_among, weights_of}
-use Rattle.table.proofs.Entries.{entry_weighs, has_entry, slice_get-append_left, slice_get-append_right}
+use Rattle.table.specs.Rules.{Rules, contraction, expands_in, longs_join, joins_in, letter_weighs, rules_by, rules_in, weighs_in, weights_of}
+use Rattle.table.proofs.Entries.{each_expands, entry_weighs, every_at, has_entry, none_itself, some_expands, they_climb, slice_get-append_left, slice_get-append_right}
 use Rattle.table.proofs.Firsts.{first_below, first_least, first_passes, none_at, none_below}
 use Rattle.table.proofs.Growing.{refusal_more}
 use Rattle.table.proofs.Longs.{longs_alone, longs_letter, longs_pair, no_pair_joins}
@@ -98,12 +102,6 @@ first_twice ls ps n k e =
       λ j l. known_pair false ps j (none_at (foreign false ps) n f.0 j l),
     )
 
--- what holds of all holds of each
-every_at : {A : Type 0} (test : A → Bool) (es : List A) (k : ℕ) (e : A) → list_all test es ≡ true → slice_get es k ≡ Some e → test e ≡ true
-every_at test [] k e h q = absurd (none-some e q)
-every_at test (f ∷ es) zero e h q = ap test (sym (same_Some f e q)) ∙ (and_parts (test f) (list_all test es) h).0
-every_at test (f ∷ es) (suc k) e h q = every_at test es k e (and_parts (test f) (list_all test es) h).1 q
-
 -- longer runs at two places differ
 longs_differ : (es : List Long) (j k : ℕ) (e f : Long) → none_twice es ≡ true → j < k → slice_get es j ≡ Some e → slice_get es k ≡ Some f → e.run ≡ f.run → ⊥
 unfolding none_twice
@@ -115,20 +113,6 @@ longs_differ (d ∷ es) zero (suc k) e f s l g h q =
     let m = ap (λ r. is_some (long_among es (long_letters r))) (ap (λ x. x.run) (same_Some d e g) ∙ q) ∙ ap is_some i in
     true≢false (sym p.0 ∙ ap not m)
 longs_differ (d ∷ es) (suc j) (suc k) e f s l g h q = longs_differ es j k e f (and_parts (not (is_some (long_among es (long_letters d.run)))) (none_twice es) s).1 (omega arith) g h q
-
--- what holds of all entries holds of each
-all_at : (test : Letter → Bool) (es : List Letter) (k : ℕ) (e : Letter) → list_all test es ≡ true → slice_get es k ≡ Some e → test e ≡ true
-all_at test [] k e h q = grind arith
-all_at test (f ∷ es) zero e h q = grind arith
-all_at test (f ∷ es) (suc k) e h q = all_at test es k e (and_parts _ _ h).1 q
-
-ascending : (es : List Letter) (j k : ℕ) (e f : Letter) → ascends es ≡ true → j < k → slice_get es j ≡ Some e → slice_get es k ≡ Some f → e.letter < f.letter
-unfolding ascends
-ascending [] j k e f s l g h = grind arith
-ascending (d ∷ es) zero zero e f s l g h = absurd (omega arith)
-ascending (d ∷ es) zero (suc k) e f s l g h = let a = all_at (λ x. ltb d.letter x.letter) es k f (and_parts _ _ s).0 h in grind (arith, nat_tests)
-ascending (d ∷ es) (suc j) zero e f s l g h = absurd (omega arith)
-ascending (d ∷ es) (suc j) (suc k) e f s l g h = ascending es j k e f (and_parts _ _ s).1 (omega arith) g h
 
 past_bytes : (e : Letter) → is_other e ≡ true → ltb e.letter 256 ≡ false
 past_bytes e o = let l = (and_parts (leb 256 e.letter) (is_letter e.letter && counts e.weights) o).0 in grind (arith, nat_tests)
@@ -166,10 +150,11 @@ just_pairs ls ps n t = (
 )
 
 pub letters_weigh : LettersWeigh
-unfolding weighs_in weights_among
+unfolding weighs_in at_rank
 letters_weigh ls ps n a = (
   λ l. cond-true (ltb a 256) _ _ (lt-ltb a 256 l),
   λ l. cond-false (ltb a 256) _ _ (le-ltb a 256 l),
+  refl,
 )
 
 pub held_are_tables : HeldAreTables
@@ -180,9 +165,11 @@ held_are_tables t =
     let q : (k : ℕ) → k < n → KnownPair t.utf8 ps k = λ k l. known_pair t.utf8 ps k (none_at (foreign t.utf8 ps) n t.known k l) in (
       record {
         whole = t.whole;
-        others = λ k e h. all_at is_other t.others.now k e t.others_weigh h;
-        rise = λ j k e f l g h. ascending t.others.now j k e f t.ascends l g h;
+        others = λ k e h. every_at is_other t.others.now k e t.others_weigh h;
+        rise = λ j k e f l g h. climbing letter_rank t.others.now j k e f t.ascends l g h;
         bytes = t.bytes;
+        expansions = λ k e h. each_expands t.utf8 t.letters.now t.others.now t.expansions.now t.expand k e h;
+        climb = λ j k e f l g h. climbing expansion_rank t.expansions.now j k e f (they_climb t.utf8 t.letters.now t.others.now t.expansions.now t.expand) l g h;
         fives = t.fives;
         few = t.few;
         known = q;
@@ -217,7 +204,7 @@ its_weights t k e h =
     (λ l. let q = same_Some _ e (sym (byte_listed t.letters.now t.others.now k l) ∙ h) in ap (λ x. letter_weighs t.letters.now t.others.now x.letter) (sym q) ∙ (cond-true (ltb k 256) _ _ (lt-ltb k 256 l) ∙ ap (λ x. x.weights) q))
     (λ l.
     let g = sym (other_listed t.letters.now t.others.now k l) ∙ h in
-    let o = past_bytes e (all_at is_other t.others.now (k - 256) e t.others_weigh g) in
+    let o = past_bytes e (every_at is_other t.others.now (k - 256) e t.others_weigh g) in
     cond-false (ltb e.letter 256) _ _ o ∙ entry_weighs t.others.now (k - 256) e t.ascends g)
     (cases_lt k 256)
 
@@ -235,6 +222,22 @@ its_place_listed t a g =
 
 pub letters_listed : LettersListed
 letters_listed t = (its_weights t, its_place_listed t)
+
+pub expansions_listed : (t : Table) → ExpansionsListed t
+unfolding expands_in weighs_in
+expansions_listed t = record { each = each; no_others = others }
+  where
+    each : (k : ℕ) (e : Expansion) → slice_get (expansions_of t) k ≡ Some e → ((rules_of t).expands (e.letter ∷ []) ≡ expanded e.weights) × (counts ((rules_of t).weighs (e.letter ∷ [])) ≡ false)
+    each k e h = (
+      ap (λ o. expanded_if (option_map (λ x. x.weights) o)) (its_rank expansion_rank t.expansions.now k e (they_climb t.utf8 t.letters.now t.others.now t.expansions.now t.expand) h),
+      ap counts (longs_letter (rules_by t.utf8 t.letters.now t.others.now t.pairs.numbers.now t.pairs.count) t.longs.now e.letter)
+          ∙ none_itself t.utf8 t.letters.now t.others.now t.expansions.now t.expand k e h,
+    )
+
+    others : (p : List ℕ) → 0 < length ((rules_of t).expands p) → (k : ℕ) × (e : Expansion) × (slice_get (expansions_of t) k ≡ Some e) × (p ≡ e.letter ∷ [])
+    others [] h = absurd (omega arith)
+    others (a ∷ []) h = let q = some_expands t.expansions.now a h in (q.0, q.1, q.2, ap (λ b. b ∷ []) (sym q.3))
+    others (a ∷ (b ∷ run)) h = absurd (omega arith)
 
 pub valley_says : ValleySays
 unfolding numbers

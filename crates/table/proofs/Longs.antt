@@ -56,7 +56,7 @@ module _ (t : Rules) (es : List Long) where
 
   pub letter_beside : (a : ℕ) (w : Weights) → with_longs (with_letter t a w) es ≡ with_letter (with_longs t es) a w
   unfolding longs_join longs_weigh
-  letter_beside a w = same_rules (with_longs (with_letter t a w) es) (with_letter (with_longs t es) a w) (λ run. refl) weighs refl
+  letter_beside a w = same_rules (with_longs (with_letter t a w) es) (with_letter (with_longs t es) a w) (λ run. refl) weighs (λ run. refl) refl
     where
       weighs : (run : List ℕ) → unwrap_or (long_among es run) (cond (same_run (a ∷ []) run) w (t.weighs run)) ≡ cond (same_run (a ∷ []) run) w (unwrap_or (long_among es run) (t.weighs run))
       weighs [] = refl
@@ -75,7 +75,7 @@ module _ (t : Rules) (es : List Long) where
   pub pair_beside : (p : Pair) → with_longs (with_pair t p) es ≡ with_pair (with_longs t es) p
   unfolding longs_join longs_weigh
   pair_beside p = same_rules (with_longs (with_pair t p) es) (with_pair (with_longs t es) p)
-      (λ run. or_turned (is_some (long_among es run)) (same_run (p.first ∷ (p.second ∷ [])) run) (t.joins run)) (λ run. weighs run (same_run (p.first ∷ (p.second ∷ [])) run) refl) refl
+      (λ run. or_turned (is_some (long_among es run)) (same_run (p.first ∷ (p.second ∷ [])) run) (t.joins run)) (λ run. weighs run (same_run (p.first ∷ (p.second ∷ [])) run) refl) (λ run. refl) refl
     where
       weighs : (run : List ℕ) (s : Bool) → same_run (p.first ∷ (p.second ∷ [])) run ≡ s → unwrap_or (long_among es run) (cond s p.weights (t.weighs run)) ≡ cond s p.weights (unwrap_or (long_among es run) (t.weighs run))
       weighs run false e = refl
@@ -83,7 +83,7 @@ module _ (t : Rules) (es : List Long) where
 
   pub long_beside : (e : Long) → long_among es (long_letters e.run) ≡ None → with_longs t (put_in long_rank e es) ≡ with_run (with_longs t es) (long_letters e.run) e.weights
   unfolding longs_join longs_weigh
-  long_beside e n = same_rules (with_longs t (put_in long_rank e es)) (with_run (with_longs t es) (long_letters e.run) e.weights) joins weighs refl
+  long_beside e n = same_rules (with_longs t (put_in long_rank e es)) (with_run (with_longs t es) (long_letters e.run) e.weights) joins weighs (λ run. refl) refl
     where
       at : (s : Bool) (o : Option Weights) (j : Bool) → (is_some (cond s (Some e.weights) o) || j) ≡ (s || (is_some o || j))
       at true o j = refl
@@ -101,7 +101,7 @@ module _ (t : Rules) (es : List Long) where
 
 pub no_longs : (t : Rules) → with_longs t [] ≡ t
 unfolding long_among longs_join longs_weigh
-no_longs t = same_rules (with_longs t []) t (λ run. refl) (λ run. refl) refl
+no_longs t = same_rules (with_longs t []) t (λ run. refl) (λ run. refl) (λ run. refl) refl
 
 -- three and four letters are no pair
 pub no_pair_joins : (ps : List ℕ) (n : ℕ) (r : LongRun) → joins_in ps n (long_letters r) ≡ false

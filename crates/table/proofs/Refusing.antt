@@ -1,20 +1,26 @@
 -- Which refusal it is, one test after the other.
-use Rattle.std.proofs.Common.{◌≡◌, ℕ, ◌*◌, ◌<◌, ◌≤◌, ◌/◌, ◌⊎◌, List, [], ◌∷◌, length, Some, None, true, false, Ok, Err, Option, Result, IsErrAnd, is_some, sym, ap, ◌∙◌, refl, inl, inr, ⊎_elim, leb, cond, Bool, arith}
+use Rattle.std.proofs.Common.{◌≡◌, ℕ, ◌*◌, ◌<◌, ◌≤◌, ◌/◌, ◌⊎◌, not, List, length, Some, None, true, false, Ok, Err, Option, Result, IsErrAnd, is_some, sym, ap, ◌∙◌, refl, inl, inr, ⊎_elim, leb, cond, Bool, arith}
 use mathlib.Core.Path.{subst⁻¹}
 use Rattle.std.proofs.lemmas.Bool.{eq-eqb, ne_eqb, lt-ltb, le-ltb, cases_eq, cases_lt, true≢false}
 use Rattle.std.proofs.lemmas.Bool.Decides.{nat_tests}
 use Rattle.table.specs.declared.fault.Refusal.{Refusal}
-use Rattle.table.specs.declared.fault.Refusal.TheVariants.{Letters, Shape, TooMany, Foreign, Twice}
+use Rattle.table.specs.declared.fault.Refusal.TheVariants.{Letters, LetterTwice, NoLetter, Shape, TooMany, TooManyLetters, Foreign, Twice}
 use Rattle.table.specs.Refusals.{at_place, first_place, foreign, repeated, refusal_of, shape_refusal, verdict}
 use Rattle.table.specs.declared.view.Table.{Table}
-use Rattle.table.specs.Buffer.{Added, is_letter_of, letter_refusal}
+use Rattle.std.specs.Result.{IsErr}
+use Rattle.std.specs.declared.alloc.AllocError.{AllocError}
+use Rattle.table.specs.Buffer.{Added, SameBuffer, Written, excess_refusal, letter_refusal}
+use Rattle.table.specs.Entries.{is_letter_of}
 use Rattle.table.specs.Meaning.{Checked}
-use Rattle.table.specs.Rules.{Rules, contraction}
-use Rattle.pieces.specs.Runs.{counts}
+use Rattle.table.specs.Rules.{Rules, contraction, is_weighed}
+use Rattle.pieces.specs.Runs.{counts_some}
 use Rattle.table.specs.declared.buffer.TableBuf.{TableBuf}
 use Rattle.table.specs.declared.fault.Failure.{Failure}
 use Rattle.table.specs.declared.fault.Failure.TheVariants.{Refused}
-use Rattle.pieces.specs.declared.piece.Letter.{Letter}
+use Rattle.pieces.specs.declared.piece.LetterEntry.{LetterEntry}
+use Rattle.pieces.specs.declared.piece.Triples.{Triples}
+use Rattle.pieces.specs.declared.piece.Triples.TheVariants.{Excess, One, Several}
+use Rattle.std.proofs.lemmas.Option.{none-some}
 
 module _ (ls ps : List ℕ) (n : ℕ) where
   pub wrong_letters : (length ls ≡ 768 → ⊥) → refusal_of ls ps n ≡ Some Letters
@@ -126,14 +132,32 @@ refused ls ps n why (Ok t) h e = absurd h
 refused ls ps n why (Err w) h e = e ∙ ap Some (sym h)
 
 -- what an entry that is taken is
-pub letter_free : (t : Rules) (k : ℕ) (e : Letter) → letter_refusal t k e ≡ None → counts e.weights ≡ true → (is_letter_of t.utf8 e.letter ≡ true) × (counts (t.weighs (e.letter ∷ [])) ≡ false)
-letter_free t k e n c = (grind (arith, nat_tests), grind (arith, nat_tests))
+pub letter_free : (t : Rules) (k : ℕ) (e : LetterEntry) → letter_refusal t k e ≡ None → counts_some e.weights ≡ true → (is_letter_of t.utf8 e.letter ≡ true) × (is_weighed t e.letter ≡ false) × (excess_refusal 0 e.weights ≡ None)
+letter_free t k e n c = go (counts_some e.weights) (leb 2000 k) (is_letter_of t.utf8 e.letter) (is_weighed t e.letter) refl refl c n
+  where
+    any_place : (x : Triples) → excess_refusal k x ≡ None → excess_refusal 0 x ≡ None
+    any_place (One w) h = refl
+    any_place (Several x) h = refl
+    any_place Excess h = absurd (none-some _ (sym h))
+
+    go : (x y l w : Bool) → is_letter_of t.utf8 e.letter ≡ l → is_weighed t e.letter ≡ w → x ≡ true
+        → cond (not x) None (cond y (Some TooManyLetters) (cond (not l) (Some (NoLetter k)) (cond w (Some (LetterTwice k)) (excess_refusal k e.weights)))) ≡ None → (l ≡ true) × (w ≡ false) × (excess_refusal 0 e.weights ≡ None)
+    go false y l w p q c n = absurd (true≢false (sym c))
+    go true true l w p q c n = absurd (none-some _ (sym n))
+    go true false false w p q c n = absurd (none-some _ (sym n))
+    go true false true true p q c n = absurd (none-some _ (sym n))
+    go true false true false p q c n = (refl, refl, any_place e.weights n)
 
 -- what is refused is told, and nothing changes
 pub refused_told : (refusal : Option Refusal) (there : TableBuf → Type 0) (b : TableBuf) (why : Refusal) (r : Result Unit (Failure Refusal)) → IsErrAnd r (λ x. x ≡ Refused why)
     → refusal ≡ Some why → Added refusal there b r b
 refused_told o there b why (Ok x) h q = absurd h
 refused_told o there b why (Err x) h q = subst⁻¹ (λ x. Added o there b (Err x) b) h (q, refl)
+
+-- where there is no memory, what is said is the same
+pub not_written : (there : TableBuf → Type 0) (b c : TableBuf) (r : Result Unit AllocError) → IsErr r → SameBuffer b c → Written there b r c
+not_written there b c (Ok x) h s = absurd (true≢false (sym h))
+not_written there b c (Err x) h s = s
 
 -- one run more, looked at test by test
 module _ (m n : ℕ) (b c : Bool) (e : m ≡ n) (l : m < 200) (f : b ≡ false) where

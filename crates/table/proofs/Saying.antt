@@ -7,10 +7,11 @@ use Rattle.pieces.specs.declared.piece.Weights.{Weights}
 use Rattle.table.specs.Numbers.{place_in}
 use Rattle.pieces.specs.Runs.{weights_at, nothing}
 use Rattle.table.specs.Refusals.{last_letter}
-use Rattle.table.specs.Rules.{Rules, joins_in, weighs_in, weights_among, rules_by, no_rules}
+use Rattle.pieces.specs.Ranks.{at_rank}
+use Rattle.table.specs.Rules.{Rules, joins_in, weighs_in, rules_by, no_rules}
 
-pub same_rules : (t u : Rules) → ((run : List ℕ) → t.joins run ≡ u.joins run) → ((run : List ℕ) → t.weighs run ≡ u.weighs run) → t.utf8 ≡ u.utf8 → t ≡ u
-same_rules t u j w b = λ i. record { joins = fun_ext j i; weighs = fun_ext w i; utf8 = b i }
+pub same_rules : (t u : Rules) → ((run : List ℕ) → t.joins run ≡ u.joins run) → ((run : List ℕ) → t.weighs run ≡ u.weighs run) → ((run : List ℕ) → t.expands run ≡ u.expands run) → t.utf8 ≡ u.utf8 → t ≡ u
+same_rules t u j w e b = λ i. record { joins = fun_ext j i; weighs = fun_ext w i; expands = fun_ext e i; utf8 = b i }
 
 pub same_weights : (v w : Weights) → v.primary ≡ w.primary → v.secondary ≡ w.secondary → v.tertiary ≡ w.tertiary → v ≡ w
 same_weights v w p s t = λ i. record { primary = p i; secondary = s i; tertiary = t i }
@@ -32,8 +33,8 @@ pub zero_weights : (i : ℕ) → weights_at (replicate 768 0) i ≡ nothing
 zero_weights i = same_weights _ _ (zeros_at 768 i) (zeros_at 768 (i + 1)) (zeros_at 768 (i + 2))
 
 pub blank_rules : (u : Bool) → rules_by u (replicate 768 0) [] [] 0 ≡ no_rules u
-unfolding joins_in weighs_in place_in weights_among
-blank_rules u = same_rules (rules_by u (replicate 768 0) [] [] 0) (no_rules u) joins weighs refl
+unfolding joins_in weighs_in place_in at_rank
+blank_rules u = same_rules (rules_by u (replicate 768 0) [] [] 0) (no_rules u) joins weighs (λ run. refl) refl
   where
     joins : (run : List ℕ) → joins_in [] 0 run ≡ false
     joins [] = refl

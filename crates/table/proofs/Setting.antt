@@ -1,7 +1,7 @@
 -- The weights of one letter written over those it had.
-use Rattle.std.proofs.Common.{◌≡◌, ℕ, zero, suc, ◌+◌, ◌*◌, ◌<◌, ◌≤◌, Bool, true, false, cond, ◌≢◌, List, [], ◌∷◌, length, get_or, replicate, set, refl, ap, ◌∙◌, ⊎_elim, add-one, arith}
+use Rattle.std.proofs.Common.{◌≡◌, ℕ, zero, suc, ◌+◌, ◌*◌, ◌<◌, ◌≤◌, Bool, true, false, cond, ltb, ◌≢◌, List, [], ◌∷◌, length, get_or, replicate, set, refl, ap, ◌∙◌, ⊎_elim, add-one, arith}
 use Rattle.std.proofs.lemmas.List.{length-set, get_or-set_same, get_or-set_other}
-use Rattle.std.proofs.lemmas.Bool.{cases_eq, eq-eqb, lt-ltb, ne_eqb}
+use Rattle.std.proofs.lemmas.Bool.{cases_eq, cond-false, eq-eqb, lt-ltb, ne_eqb}
 use Rattle.std.proofs.lemmas.List.Edits.{length-insert}
 use Rattle.std.proofs.lemmas.Bool.Decides.{nat_tests}
 use Rattle.pieces.specs.declared.piece.Letter.{Letter}
@@ -10,7 +10,7 @@ use Rattle.table.specs.Numbers.{weights_set}
 use Rattle.pieces.specs.Runs.{letter_rank, weights_at, counts, same_run}
 use Rattle.table.specs.Buffer.{letters_weighing, many_below}
 use Rattle.pieces.specs.Ranks.{below}
-use Rattle.table.specs.Rules.{weighs_in, rules_by, with_letter}
+use Rattle.table.specs.Rules.{letter_weighs, weighs_in, weights_among, rules_by, with_letter}
 use Rattle.table.proofs.Entries.{put, weighs_put}
 use Rattle.pieces.proofs.Ranking.{below_most}
 use Rattle.table.proofs.Saying.{same_rules, same_weights, zero_weights}
@@ -94,7 +94,11 @@ module _ (u : Bool) (ls : List ℕ) (os : List Letter) (ps : List ℕ) (n : ℕ)
     weighs_set (b ∷ (c ∷ (d ∷ run))) = grind (arith, nat_tests)
 
     pub letter_set : rules_by u (weights_set ls (3 * a) w) os ps n ≡ with_letter (rules_by u ls os ps n) a w
-    letter_set = same_rules (rules_by u (weights_set ls (3 * a) w) os ps n) (with_letter (rules_by u ls os ps n) a w) (λ run. refl) weighs_set refl
+    letter_set = same_rules (rules_by u (weights_set ls (3 * a) w) os ps n) (with_letter (rules_by u ls os ps n) a w) (λ run. refl) weighs_set (λ run. refl) refl
+
+    -- the other letters weigh what they did
+    pub beside_set : (b : ℕ) → (a ≡ b → ⊥) → letter_weighs (weights_set ls (3 * a) w) os b ≡ letter_weighs ls os b
+    beside_set b ne = ap (λ x. cond (ltb b 256) x (weights_among os b)) (weights_elsewhere ls a b w ne)
 
     pub one_more_set : counts w ≡ true → counts (weights_at ls (3 * a)) ≡ false → letters_weighing (weights_set ls (3 * a) w) os ≡ letters_weighing ls os + 1
     one_more_set c f =
@@ -112,7 +116,10 @@ module _ (u : Bool) (ls : List ℕ) (os : List Letter) (ps : List ℕ) (n : ℕ)
     weighs_other (b ∷ (c ∷ (d ∷ run))) = grind (arith, nat_tests)
 
     pub other_set : rules_by u ls (put e os) ps n ≡ with_letter (rules_by u ls os ps n) e.letter e.weights
-    other_set = same_rules (rules_by u ls (put e os) ps n) (with_letter (rules_by u ls os ps n) e.letter e.weights) (λ run. refl) weighs_other refl
+    other_set = same_rules (rules_by u ls (put e os) ps n) (with_letter (rules_by u ls os ps n) e.letter e.weights) (λ run. refl) weighs_other (λ run. refl) refl
+
+    pub beside_other : (b : ℕ) → (e.letter ≡ b → ⊥) → letter_weighs ls (put e os) b ≡ letter_weighs ls os b
+    beside_other b ne = ap (λ x. cond (ltb b 256) (weights_at ls (3 * b)) x) (weighs_put e os b ∙ cond-false _ _ _ (ne_eqb e.letter b ne))
 
     pub one_more_other : letters_weighing ls (put e os) ≡ letters_weighing ls os + 1
     one_more_other = let m = length-insert os (below letter_rank os e.letter) e (below_most letter_rank os e.letter) in omega arith

@@ -6,7 +6,8 @@ use Rattle.std.proofs.lemmas.Bool.Decides.{nat_tests}
 use Rattle.table.specs.Numbers.{place_in}
 use Rattle.pieces.specs.Runs.{weights_at, nothing, same_run}
 use Rattle.table.specs.Refusals.{refusal_of, first_place}
-use Rattle.table.specs.Rules.{letter_weighs, joins_in, weighs_in, weights_among, rules_in}
+use Rattle.table.specs.Rules.{letter_weighs, joins_in, weighs_in, rules_in}
+use Rattle.pieces.specs.Ranks.{at_rank}
 use Rattle.table.specs.Valley.{valley, valley_letter, valley_weighs, valley_list, valley_pair, level}
 use Rattle.table.proofs.Saying.{same_rules, same_weights}
 
@@ -33,7 +34,7 @@ letter_known a l =
     same_weights _ _ p (number_at a 1 l (omega arith)) (number_at a 2 l (omega arith))
 
 letter_known_or : (a : ℕ) → letter_weighs numbers [] a ≡ cond (ltb a 256) (valley_letter a) nothing
-unfolding weights_among
+unfolding at_rank
 letter_known_or a =
     ⊎_elim
     (λ l. let t = lt-ltb a 256 l in rw t (letter_known a l))
@@ -55,7 +56,7 @@ weighs_as (a ∷ (b ∷ [])) = grind (arith, nat_tests)
 weighs_as (a ∷ (b ∷ (c ∷ run))) = grind (arith, nat_tests)
 
 pub valley_rules : rules_in numbers valley_pair 1 ≡ valley
-valley_rules = same_rules (rules_in numbers valley_pair 1) valley joins_as weighs_as refl
+valley_rules = same_rules (rules_in numbers valley_pair 1) valley joins_as weighs_as (λ run. refl) refl
 
 pub valley_kept : refusal_of numbers valley_pair 1 ≡ None
 unfolding refusal_of first_place place_in

@@ -1,20 +1,24 @@
 -- What a table that is filled step by step says, and what a letter or a run that is added changes.
-use Rattle.std.specs.Prelude.{◌≡◌, ℕ, zero, suc, ◌+◌, ◌*◌, ◌/◌, Bool, cond, not, List, [], ◌∷◌, ◌++◌, length, Some, None, Ok, Err, vec_items, Option, Result, nat_le, nat_lt}
+use Rattle.std.specs.Prelude.{◌≡◌, ℕ, zero, suc, ◌+◌, ◌*◌, ◌/◌, Bool, cond, not, List, [], ◌∷◌, ◌++◌, length, Some, None, Ok, Err, vec_items, Option, Result, nat_le}
 use Rattle.std.specs.declared.alloc.AllocError.{AllocError}
+use Rattle.pieces.specs.declared.piece.Expansion.{Expansion}
 use Rattle.pieces.specs.declared.piece.Letter.{Letter}
+use Rattle.pieces.specs.declared.piece.LetterEntry.{LetterEntry}
 use Rattle.pieces.specs.declared.piece.Long.{Long}
 use Rattle.pieces.specs.declared.piece.Pair.{Pair}
+use Rattle.pieces.specs.declared.piece.Triples.{Triples}
+use Rattle.pieces.specs.declared.piece.Triples.TheVariants.{Excess, One, Several}
 use Rattle.pieces.specs.Ranks.{put_in}
-use Rattle.pieces.specs.Runs.{counts, long_letters, long_rank, weights_at}
+use Rattle.pieces.specs.Runs.{counts, counts_some, long_letters, long_rank, weights_at}
 use Rattle.table.specs.declared.fault.Failure.{Failure}
 use Rattle.table.specs.declared.fault.Failure.TheVariants.{Refused, NoMemory}
 use Rattle.table.specs.declared.buffer.TableBuf.{TableBuf}
 use Rattle.table.specs.declared.fault.Refusal.{Refusal}
-use Rattle.table.specs.declared.fault.Refusal.TheVariants.{TooMany, Foreign, Twice, TooManyLetters, NoLetter, LetterTwice}
+use Rattle.table.specs.declared.fault.Refusal.TheVariants.{TooMany, Foreign, Twice, TooManyLetters, NoLetter, LetterTwice, TooManyTriples}
 use Rattle.table.specs.Numbers.{pairs_in}
 use Rattle.table.specs.Refusals.{unknown, unknown_run}
-use Rattle.table.specs.Rules.{Rules, rules_by, with_letter, with_longs, with_pair, with_run}
-use Rattle.utf8.specs.Letters.{is_letter}
+use Rattle.table.specs.Entries.{is_letter_of}
+use Rattle.table.specs.Rules.{Rules, is_weighed, rules_by, with_expansions, with_longs, with_pair, with_run, with_triples}
 
 -- how many pairs it has: five numbers each
 abbrev pub buffer_count : TableBuf → ℕ
@@ -36,53 +40,65 @@ many_runs ps es = length ps + length es
 abbrev pub buffer_runs : TableBuf → ℕ
 buffer_runs b = many_runs (buffer_pairs b) (buffer_longs b)
 
+-- its letters that weigh as two or three, in the order of their numbers
+abbrev pub buffer_expansions : TableBuf → List Expansion
+buffer_expansions b = vec_items b.expansions
+
 -- what it says
 abbrev pub buffer_rules : TableBuf → Rules
-buffer_rules b = with_longs (rules_by b.utf8 (vec_items b.letters) (vec_items b.others) (vec_items b.pairs) (buffer_count b)) (buffer_longs b)
+buffer_rules b =
+    with_expansions (with_longs (rules_by b.utf8 (vec_items b.letters) (vec_items b.others) (vec_items b.pairs) (buffer_count b)) (buffer_longs b)) (buffer_expansions b)
 
 -- how many numbers below n pass the test
 unfoldable pub many_below : (ℕ → Bool) → (n : ℕ) → ℕ
 many_below test zero = 0
 many_below test (suc k) = many_below test k + cond (test k) 1 0
 
--- how many letters weigh something: those below 256 that do, and the others, each of which does
+-- how many letters weigh something themselves: those below 256 that do, and the others, each of which does
 abbrev pub letters_weighing : (letters : List ℕ) → (others : List Letter) → ℕ
 letters_weighing ls os = many_below (λ a. counts (weights_at ls (3 * a))) 256 + length os
 
+-- and how many do at all: those that weigh as two or three too
 abbrev pub buffer_letters : TableBuf → ℕ
-buffer_letters b = letters_weighing (vec_items b.letters) (vec_items b.others)
+buffer_letters b = letters_weighing (vec_items b.letters) (vec_items b.others) + length (buffer_expansions b)
 
--- the numbers that are letters of a table: UTF-8 has those below 65,536 that are no surrogates, and bytes are those below 256
-abbrev pub is_letter_of : (utf8 : Bool) → ℕ → Bool
-is_letter_of utf8 a = cond utf8 (is_letter a) (nat_lt a 256)
+-- the refusal of an entry at place k, of a letter that weighs something already, or doesn't; else see what comes next
+abbrev pub entry_refusal : (utf8 : Bool) → (weighed : Bool) → (k letter : ℕ) → Option Refusal → Option Refusal
+entry_refusal utf8 weighed k a next =
+    cond (not (is_letter_of utf8 a)) (Some (NoLetter k))
+    (cond weighed (Some (LetterTwice k)) next)
 
--- the refusal of an entry at place k, which weighs something
-abbrev pub entry_refusal : Rules → (k : ℕ) → Letter → Option Refusal
-entry_refusal t k e =
-    cond (not (is_letter_of t.utf8 e.letter)) (Some (NoLetter k))
-    (cond (counts (t.weighs (e.letter ∷ []))) (Some (LetterTwice k)) None)
+-- the refusal of one that weighs as more than three
+abbrev pub excess_refusal : (k : ℕ) → Triples → Option Refusal
+excess_refusal k (One w) = None
+excess_refusal k (Several e) = None
+excess_refusal k Excess = Some (TooManyTriples k)
 
 -- the refusal of one letter more, where so many weigh something; an entry that weighs nothing is as if it weren't there
-abbrev pub letter_refusal : Rules → (many : ℕ) → Letter → Option Refusal
-letter_refusal t k e = cond (not (counts e.weights)) None (cond (nat_le 2000 k) (Some TooManyLetters) (entry_refusal t k e))
+abbrev pub letter_refusal : Rules → (many : ℕ) → LetterEntry → Option Refusal
+letter_refusal t k e =
+    cond (not (counts_some e.weights)) None
+    (cond (nat_le 2000 k) (Some TooManyLetters)
+    (entry_refusal t.utf8 (is_weighed t e.letter) k e.letter (excess_refusal k e.weights)))
 
 -- a table with one entry more
-abbrev pub with_entry : Rules → Letter → Rules
-with_entry t e = cond (counts e.weights) (with_letter t e.letter e.weights) t
+abbrev pub with_entry : Rules → LetterEntry → Rules
+with_entry t e = cond (counts_some e.weights) (with_triples t e.letter e.weights) t
 
--- the refusal of one pair more, where a table has so many runs
+-- the refusal of one run more, where a table has so many
+abbrev pub run_refusal : Rules → (k : ℕ) → (run : List ℕ) → (foreign : Bool) → Option Refusal
+run_refusal t k run foreign =
+    cond (nat_le 200 k) (Some TooMany)
+    (cond foreign (Some (Foreign k))
+    (cond (t.joins run) (Some (Twice k)) None))
+
+-- of one pair more
 abbrev pub pair_refusal : Rules → (k : ℕ) → Pair → Option Refusal
-pair_refusal t k p =
-    cond (nat_le 200 k) (Some TooMany)
-    (cond (unknown t.utf8 p.first p.second) (Some (Foreign k))
-    (cond (t.joins (p.first ∷ (p.second ∷ []))) (Some (Twice k)) None))
+pair_refusal t k p = run_refusal t k (p.first ∷ (p.second ∷ [])) (unknown t.utf8 p.first p.second)
 
--- the same of a longer run
+-- and of a longer run
 abbrev pub long_refusal : Rules → (k : ℕ) → Long → Option Refusal
-long_refusal t k e =
-    cond (nat_le 200 k) (Some TooMany)
-    (cond (unknown_run t.utf8 (long_letters e.run)) (Some (Foreign k))
-    (cond (t.joins (long_letters e.run)) (Some (Twice k)) None))
+long_refusal t k e = run_refusal t k (long_letters e.run) (unknown_run t.utf8 (long_letters e.run))
 
 -- what both say, and what they list, is the same
 abbrev pub SameBuffer : TableBuf → TableBuf → Type 0
@@ -90,15 +106,15 @@ SameBuffer b c =
     (buffer_rules c ≡ buffer_rules b) × (buffer_letters c ≡ buffer_letters b) × (buffer_pairs c ≡ buffer_pairs b) × (buffer_longs c ≡ buffer_longs b)
 
 -- a letter that weighs something is there
-abbrev pub LetterIn : TableBuf → Letter → TableBuf → Type 0
+abbrev pub LetterIn : TableBuf → LetterEntry → TableBuf → Type 0
 LetterIn b e c =
-    (buffer_rules c ≡ with_letter (buffer_rules b) e.letter e.weights) × (buffer_letters c ≡ buffer_letters b + 1)
+    (buffer_rules c ≡ with_triples (buffer_rules b) e.letter e.weights) × (buffer_letters c ≡ buffer_letters b + 1)
     × (buffer_pairs c ≡ buffer_pairs b) × (buffer_longs c ≡ buffer_longs b)
 
 -- an entry has been taken: it is there if it weighs something
-abbrev pub EntryIn : TableBuf → Letter → TableBuf → Type 0
+abbrev pub EntryIn : TableBuf → LetterEntry → TableBuf → Type 0
 EntryIn b e c =
-    (buffer_rules c ≡ with_entry (buffer_rules b) e) × (buffer_letters c ≡ buffer_letters b + cond (counts e.weights) 1 0)
+    (buffer_rules c ≡ with_entry (buffer_rules b) e) × (buffer_letters c ≡ buffer_letters b + cond (counts_some e.weights) 1 0)
     × (buffer_pairs c ≡ buffer_pairs b) × (buffer_longs c ≡ buffer_longs b)
 
 -- a pair is there, behind the others

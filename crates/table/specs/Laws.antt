@@ -3,16 +3,17 @@
 use Rattle.std.specs.Prelude.{◌≡◌, ℕ, ◌+◌, ◌*◌, ◌<◌, ◌≤◌, Bool, true, false, List, [], ◌∷◌, ◌++◌, ◌⊎◌, length, Some, None}
 use Rattle.std.specs.List.{slice_get}
 use Rattle.table.specs.declared.fault.Refusal.TheVariants.{Foreign, Twice}
+use Rattle.pieces.specs.declared.piece.Expansion.{Expansion}
 use Rattle.pieces.specs.declared.piece.Letter.{Letter}
 use Rattle.pieces.specs.declared.piece.Long.{Long}
 use Rattle.pieces.specs.declared.piece.Pair.{Pair}
 use Rattle.table.specs.declared.view.Table.{Table}
 use Rattle.table.specs.Buffer.{pair_refusal}
-use Rattle.table.specs.Meaning.{letters_of, longs_of, pairs_of, rules_of}
+use Rattle.table.specs.Meaning.{expansions_of, letters_of, longs_of, pairs_of, rules_of}
 use Rattle.table.specs.Numbers.{first_at, second_at, numbers_of, pairs_in}
-use Rattle.pieces.specs.Runs.{counts, long_letters, nothing, weights_at}
+use Rattle.pieces.specs.Runs.{counts, expanded, long_letters, nothing, weights_at}
 use Rattle.table.specs.Refusals.{known_long, last_letter, refusal_of}
-use Rattle.table.specs.Entries.{is_other}
+use Rattle.table.specs.Entries.{is_expansion, is_other}
 use Rattle.table.specs.Rules.{contraction, rules_in}
 use Rattle.table.specs.Valley.{valley, valley_list, valley_pair, valley_pairs}
 
@@ -57,20 +58,24 @@ JustPairs =
     × ((rules_in ls ps n).weighs (first_at ps k ∷ (second_at ps k ∷ [])) ≡ weights_at ps (5 * k + 2)))
     × ((run : List ℕ) → (rules_in ls ps n).joins run ≡ true → (k : ℕ) × (k < n) × (run ≡ first_at ps k ∷ (second_at ps k ∷ [])))
 
--- under a table of bytes a letter weighs what stands at its place, and there are no others
+-- under a table of bytes a letter weighs what stands at its place, there are no others, and none expands
 abbrev pub LettersWeigh : Type 0
 LettersWeigh =
     (ls ps : List ℕ) (n a : ℕ) →
     (a < 256 → (rules_in ls ps n).weighs (a ∷ []) ≡ weights_at ls (3 * a)) × (256 ≤ a → (rules_in ls ps n).weighs (a ∷ []) ≡ nothing)
+    × ((rules_in ls ps n).expands (a ∷ []) ≡ [])
 
 -- The numbers that a table holds: 768 weights; entries of other letters, each of a letter above 255 that weighs something, and
--- above those in front of it, and none where names are bytes; and five numbers for each pair, and longer runs, at most 200 in
+-- above those in front of it, and none where names are bytes; letters that weigh as two or three, each above those in front of it,
+-- one of whose triples counts, and which weigh nothing themselves; and five numbers for each pair, and longer runs, at most 200 in
 -- all, of known letters, none there twice.
 pub record Holds (t : Table) : Type 0 where
   pub whole : length t.letters.now ≡ 768
   pub others : (k : ℕ) (e : Letter) → slice_get t.others.now k ≡ Some e → is_other e ≡ true
   pub rise : (j k : ℕ) (e f : Letter) → j < k → slice_get t.others.now j ≡ Some e → slice_get t.others.now k ≡ Some f → e.letter < f.letter
   pub bytes : t.utf8 ≡ false → t.others.now ≡ []
+  pub expansions : (k : ℕ) (e : Expansion) → slice_get t.expansions.now k ≡ Some e → is_expansion t.utf8 t.letters.now t.others.now e ≡ true
+  pub climb : (j k : ℕ) (e f : Expansion) → j < k → slice_get t.expansions.now j ≡ Some e → slice_get t.expansions.now k ≡ Some f → e.letter < f.letter
   pub fives : length t.pairs.numbers.now ≡ 5 * t.pairs.count
   pub few : t.pairs.count + length t.longs.now ≤ 200
   pub known : (k : ℕ) → k < t.pairs.count → KnownPair t.utf8 t.pairs.numbers.now k
@@ -82,12 +87,19 @@ pub record Holds (t : Table) : Type 0 where
 abbrev pub HeldAreTables : Type 0
 HeldAreTables = (t : Table) → Holds t × (t.utf8 ≡ false → IsTable t.letters.now t.pairs.numbers.now t.pairs.count)
 
--- the letters that a table lists weigh what is listed with them, and no other letter weighs anything
+-- the letters that a table lists weigh what is listed with them, and no other letter weighs anything itself
 abbrev pub LettersListed : Type 0
 LettersListed =
     (t : Table) →
     ((k : ℕ) (e : Letter) → slice_get (letters_of t) k ≡ Some e → (rules_of t).weighs (e.letter ∷ []) ≡ e.weights)
     × ((a : ℕ) → counts ((rules_of t).weighs (a ∷ [])) ≡ true → (k : ℕ) × (e : Letter) × (slice_get (letters_of t) k ≡ Some e) × (e.letter ≡ a))
+
+-- a letter that a table lists as one that weighs as two or three expands to what is listed with it, and weighs nothing itself; and
+-- nothing else expands
+pub record ExpansionsListed (t : Table) : Type 0 where
+  pub each : (k : ℕ) (e : Expansion) → slice_get (expansions_of t) k ≡ Some e →
+      ((rules_of t).expands (e.letter ∷ []) ≡ expanded e.weights) × (counts ((rules_of t).weighs (e.letter ∷ [])) ≡ false)
+  pub no_others : (p : List ℕ) → 0 < length ((rules_of t).expands p) → (k : ℕ) × (e : Expansion) × (slice_get (expansions_of t) k ≡ Some e) × (p ≡ e.letter ∷ [])
 
 -- a run is that of a pair that a table lists, or of a longer run
 abbrev pub IsPairOf : Table → List ℕ → Type 0
@@ -125,6 +137,7 @@ pub record Laws : Type 0 where
   pub letters_weigh : LettersWeigh
   pub held_are_tables : HeldAreTables
   pub letters_listed : LettersListed
+  pub expansions_listed : (t : Table) → ExpansionsListed t
   pub runs_listed : (t : Table) → RunsListed t
   pub runs_fit : RunsFit
   pub valley_says : ValleySays

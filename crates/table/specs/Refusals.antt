@@ -5,10 +5,11 @@ use Rattle.std.specs.Option.{option_or}
 use Rattle.pieces.specs.declared.piece.Long.{Long}
 use Rattle.pieces.specs.Runs.{long_letters}
 use Rattle.table.specs.declared.fault.Refusal.{Refusal}
-use Rattle.table.specs.declared.fault.Refusal.TheVariants.{Letters, Shape, TooMany, Foreign, Twice, TooManyLetters, NoLetter, LetterTwice, RunLength}
+use Rattle.table.specs.declared.fault.Refusal.TheVariants.{Letters, Shape, TooMany, Foreign, Twice, TooManyLetters, NoLetter, LetterTwice, RunLength, TooManyTriples}
 use Rattle.table.specs.Numbers.{first_at, second_at, place_in}
 
--- a fault of runs, or of how many numbers there are, has the number 1, one of letters 4, and a run that is too short or too long 6
+-- a fault of runs, or of how many numbers there are, has the number 1, one of letters 4, a run that is too short or too long 6, and
+-- a letter that weighs as more than three 7
 abbrev pub refusal_number : Refusal → ℕ
 refusal_number Letters = 1
 refusal_number Shape = 1
@@ -19,6 +20,7 @@ refusal_number TooManyLetters = 4
 refusal_number (NoLetter k) = 4
 refusal_number (LetterTwice k) = 4
 refusal_number (RunLength k) = 6
+refusal_number (TooManyTriples k) = 7
 
 -- the run or the entry at fault, counted from 0; of too many letters how many there may be; else 0
 abbrev pub refusal_place : Refusal → ℕ
@@ -31,6 +33,7 @@ refusal_place TooManyLetters = 2000
 refusal_place (NoLetter k) = k
 refusal_place (LetterTwice k) = k
 refusal_place (RunLength k) = k
+refusal_place (TooManyTriples k) = k
 
 -- the first place below n that passes the test
 unfoldable pub first_place : (ℕ → Bool) → (n : ℕ) → Option ℕ

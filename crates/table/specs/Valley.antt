@@ -25,9 +25,9 @@ valley_weighs [] = nothing
 valley_weighs (a ∷ []) = cond (nat_lt a 256) (valley_letter a) nothing
 valley_weighs (a ∷ (b ∷ run)) = cond (same_run (99 ∷ (104 ∷ [])) (a ∷ (b ∷ run))) (weigh 35 1 1) nothing
 
--- what the valley's table says; its names are bytes
+-- what the valley's table says; its names are bytes, and none of its letters expands
 abbrev pub valley : Rules
-valley = record { joins = same_run (99 ∷ (104 ∷ [])); weighs = valley_weighs; utf8 = false }
+valley = record { joins = same_run (99 ∷ (104 ∷ [])); weighs = valley_weighs; expands = λ run. []; utf8 = false }
 
 -- the weight of a level, counted from 0
 abbrev pub level : ℕ → Weights → ℕ

@@ -1,12 +1,12 @@
 // A table that owns its numbers and is filled step by step.
 ghost use Rattle.std.specs.Prelude.{◌≡◌, ◌+◌, ◌*◌, ◌/◌, ◌≤◌, [], None, false, length, true};
-ghost use Rattle.pieces.specs.Ranks.{rises};
-ghost use Rattle.pieces.specs.Runs.{long_rank, none_twice};
+ghost use Rattle.pieces.specs.Ranks.{climbs, rises};
+ghost use Rattle.pieces.specs.Runs.{letter_rank, long_rank, none_twice};
 ghost use Rattle.std.specs.List.{list_all};
-ghost use Rattle.table.specs.Entries.{ascends, is_other};
+ghost use Rattle.table.specs.Entries.{are_expansions, is_other};
 ghost use Rattle.table.specs.Refusals.{first_place, foreign, known_long, repeated};
 
-use pieces::{Letter, Long};
+use pieces::{Expansion, Letter, Long};
 
 mod copy;
 mod fill;
@@ -23,6 +23,8 @@ pub struct TableBuf {
     pairs: Vec<u16>,
     // Runs of three and four letters, in the order of their ranks.
     longs: Vec<Long>,
+    // Letters that weigh as two or three, in the order of their numbers; their own weights are 0.
+    expansions: Vec<Expansion>,
     utf8: bool,
     ghost whole: { length letters.items ≡ 768 },
     ghost fives: { length pairs.items ≡ 5 * (length pairs.items / 5) },
@@ -32,7 +34,8 @@ pub struct TableBuf {
     ghost rise: { rises long_rank longs.items ≡ true },
     ghost long_apart: { none_twice longs.items ≡ true },
     ghost long_known: { list_all (known_long utf8) longs.items ≡ true },
-    ghost ascends: { ascends others.items ≡ true },
+    ghost ascends: { climbs letter_rank others.items ≡ true },
     ghost others_weigh: { list_all is_other others.items ≡ true },
+    ghost expand: { are_expansions utf8 letters.items others.items expansions.items ≡ true },
     ghost bytes: { utf8 ≡ false → others.items ≡ [] },
 }

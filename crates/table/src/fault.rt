@@ -26,11 +26,13 @@ pub enum Refusal {
     LetterTwice(usize),
     // The first run that has fewer letters than two or more than four: its place.
     RunLength(usize),
+    // A letter that weighs as more than three: the place of the entry.
+    TooManyTriples(usize),
 }
 
 impl Refusal {
-    // The number that is reported: 4 for a fault of letters, 6 for a run that is too short or too long, and 1 for every other.
-    // Messages and `make_key` say it as a number.
+    // The number that is reported: 4 for a fault of letters, 6 for a run that is too short or too long, 7 for a letter that weighs as
+    // more than three, and 1 for every other. Messages and `make_key` say it as a number.
     pub fn number(self) -> u64
         ensures { result ≡ refusal_number self }
     {
@@ -42,6 +44,7 @@ impl Refusal {
             | Refusal::Twice(_) => 1,
             Refusal::TooManyLetters | Refusal::NoLetter(_) | Refusal::LetterTwice(_) => 4,
             Refusal::RunLength(_) => 6,
+            Refusal::TooManyTriples(_) => 7,
         }
     }
 
@@ -57,7 +60,8 @@ impl Refusal {
             | Refusal::Twice(k)
             | Refusal::NoLetter(k)
             | Refusal::LetterTwice(k)
-            | Refusal::RunLength(k) => k,
+            | Refusal::RunLength(k)
+            | Refusal::TooManyTriples(k) => k,
         }
     }
 }

@@ -1,15 +1,16 @@
 // The entries of letters above 255, in the order of their letters.
 ghost use Rattle.std.specs.Prelude.{◌≡◌, length, true};
-ghost use Rattle.table.specs.Entries.{ascends};
+ghost use Rattle.pieces.specs.Ranks.{climbs};
+ghost use Rattle.pieces.specs.Runs.{letter_rank};
 ghost use Rattle.table.specs.Rules.{letter_weighs, weights_among};
 
 use crate::layout::weights_at;
-use pieces::{Letter, Weights, place_for};
+use pieces::{Letter, Weights, find_ranked};
 
 // What a letter weighs, by the weights of letters below 256 and the entries of others.
 pub(crate) fn letter_weights(letters: &[u16], others: &[Letter], letter: u32) -> Weights
     requires whole { length letters.now ≡ 768 }
-    requires ascends { ascends others.now ≡ true }
+    requires climbs { climbs letter_rank others.now ≡ true }
     ensures { result ≡ letter_weighs letters.now others.now letter }
 {
     if letter < 256 {
@@ -21,11 +22,11 @@ pub(crate) fn letter_weights(letters: &[u16], others: &[Letter], letter: u32) ->
 // What a letter weighs; nothing where it has no entry.
 #[inline(never)]
 fn weights_among(others: &[Letter], letter: u32) -> Weights
-    requires { ascends others.now ≡ true }
+    requires { climbs letter_rank others.now ≡ true }
     ensures { result ≡ weights_among others.now letter }
 {
-    match others.get(place_for(others, letter as u64)) {
-        Some(other) if other.letter == letter => other.weights,
-        _ => Weights::from([0, 0, 0]),
+    match find_ranked(others, letter as u64) {
+        Some(other) => other.weights,
+        None => Weights::from([0, 0, 0]),
     }
 }

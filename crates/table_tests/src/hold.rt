@@ -1,6 +1,9 @@
 // What several tests have in common.
 use std::process::Abort;
-use table::{AddError, Letter, Long, LongRun, Pair, Refusal, Run, Table, TableBuf, Weights};
+use table::{
+    AddError, Expanded, Expansion, Letter, LetterEntry, Long, LongRun, Pair, Refusal, Run, Table,
+    TableBuf, Triples, Weights,
+};
 
 pub(crate) const ONE: Weights = Weights {
     primary: 1,
@@ -20,10 +23,56 @@ pub(crate) const NONE: Weights = Weights {
     tertiary: 0,
 };
 
+// As ONE twice, as ONE and TWO, and as three.
+pub(crate) const DOUBLE: Expanded = Expanded {
+    first: ONE,
+    second: ONE,
+    third: None,
+};
+
+pub(crate) const MIXED: Expanded = Expanded {
+    first: ONE,
+    second: TWO,
+    third: None,
+};
+
+pub(crate) const TRIPLE: Expanded = Expanded {
+    first: TWO,
+    second: TWO,
+    third: Some(ONE),
+};
+
 pub(crate) fn hold_letters(rt: &impl Abort, table: &Table, cases: &[(u32, Weights)]) {
     for (letter, weights) in cases {
         assert_eq!(rt; table.letter(*letter), *weights);
     }
+}
+
+// What letters expand to; one that does weighs nothing itself.
+pub(crate) fn hold_expansions(rt: &impl Abort, table: &Table, cases: &[(u32, Option<Expanded>)]) {
+    for (letter, expanded) in cases {
+        assert_eq!(rt; table.expansion(*letter), *expanded);
+        match expanded {
+            Some(expanded) => {
+                assert_eq!(rt; table.letter(*letter), NONE);
+                assert_eq!(rt; table.triples(*letter), Triples::Several(*expanded));
+            }
+            None => {
+                let weights = table.letter(*letter);
+                assert_eq!(rt; table.triples(*letter), Triples::One(weights));
+            }
+        }
+    }
+}
+
+// The letters of a table that expand are these, in their order, and no others.
+pub(crate) fn hold_expansion_places(rt: &impl Abort, table: &Table, all: &[Expansion]) {
+    assert_eq!(rt; table.expansion_count(), all.len());
+    for (place, expansion) in all.iter().enumerate() {
+        assert_eq!(rt; table.expansion_at(place), Some(*expansion));
+    }
+    assert_eq!(rt; table.expansion_at(all.len()), None);
+    assert_eq!(rt; table.expansion_at(18446744073709551615), None);
 }
 
 pub(crate) fn hold_pairs(rt: &impl Abort, table: &Table, cases: &[(u32, u32, Option<Weights>)]) {
@@ -60,8 +109,28 @@ pub(crate) fn hold_begins(rt: &impl Abort, table: &Table, cases: &[(u32, bool)])
     }
 }
 
-pub(crate) fn entry(letter: u32, weights: Weights) -> Letter {
+pub(crate) fn letter(letter: u32, weights: Weights) -> Letter {
     Letter { letter, weights }
+}
+
+pub(crate) fn entry(letter: u32, weights: Weights) -> LetterEntry {
+    LetterEntry::from(Letter { letter, weights })
+}
+
+pub(crate) fn expansion(letter: u32, weights: Expanded) -> Expansion {
+    Expansion { letter, weights }
+}
+
+pub(crate) fn several(letter: u32, weights: Expanded) -> LetterEntry {
+    LetterEntry::from(Expansion { letter, weights })
+}
+
+// A letter that weighs as more than three.
+pub(crate) fn excess(letter: u32) -> LetterEntry {
+    LetterEntry {
+        letter,
+        weights: Triples::Excess,
+    }
 }
 
 pub(crate) fn pair(first: u32, second: u32, weights: Weights) -> Pair {
@@ -117,8 +186,19 @@ fn answer(why: Option<Refusal>) -> Result<(), AddError> {
 pub(crate) fn add_letters(rt: &impl Abort, table: &mut TableBuf, cases: &[Added]) {
     for case in cases {
         let Added(letter, weights, why) = *case;
-        assert_eq!(rt; table.allows_letter(entry(letter, weights)).err(), why);
-        assert_eq!(rt; table.add_letter(entry(letter, weights)), answer(why));
+        add_entries(rt, table, &[(entry(letter, weights), why)]);
+    }
+}
+
+// The same of entries that weigh as one or as several.
+pub(crate) fn add_entries(
+    rt: &impl Abort,
+    table: &mut TableBuf,
+    cases: &[(LetterEntry, Option<Refusal>)],
+) {
+    for (entry, why) in cases {
+        assert_eq!(rt; table.allows_letter(*entry).err(), *why);
+        assert_eq!(rt; table.add_letter(*entry), answer(*why));
     }
 }
 

@@ -1,5 +1,8 @@
 // What letters and pairs weigh.
-use crate::hold::{hold_begins, hold_letters, hold_long_places, hold_pairs, hold_places};
+use crate::hold::{
+    hold_begins, hold_expansion_places, hold_expansions, hold_letters, hold_long_places,
+    hold_pairs, hold_places,
+};
 use std::test::Fail;
 use table::{Pair, Table, Weights};
 
@@ -49,6 +52,8 @@ fn valley(rt: HostRuntime) {
     );
     assert_eq!(rt; valley.pair_count(), 1);
     hold_long_places(&rt, &valley, &[]);
+    hold_expansion_places(&rt, &valley, &[]);
+    hold_expansions(&rt, &valley, &[(0, None), (97, None), (255, None)]);
 }
 
 // The first letter and the last, with another weight on each level.
@@ -148,5 +153,7 @@ fn blank(rt: HostRuntime) {
     hold_pairs(&rt, &table, &[(1, 2, None)]);
     hold_places(&rt, &table, &[(0, None)]);
     hold_long_places(&rt, &table, &[]);
+    hold_expansion_places(&rt, &table, &[]);
+    hold_expansions(&rt, &table, &[(0, None), (255, None)]);
     hold_begins(&rt, &table, &[(0, false), (1, false), (255, false)]);
 }

@@ -3,10 +3,14 @@ use crate::hold::{NONE, ONE, TWO, entry, four, run};
 use crate::records::failure;
 use std::alloc::{AllocError, Global};
 use std::test::Fail;
-use table::{AddError, Letter, Refusal, Run, TableBuf, Weights};
+use table::{AddError, LetterEntry, Refusal, Run, TableBuf, Weights};
 
 // So many letters, each from `first` on, with one that weighs nothing behind each.
-fn many_letters(heap: Global, many: u32, first: u32) -> Result<Vec<Letter>, AllocError> {
+pub(crate) fn many_letters(
+    heap: Global,
+    many: u32,
+    first: u32,
+) -> Result<Vec<LetterEntry>, AllocError> {
     let mut letters = Vec::new(heap);
     for k in 0..many.min(3000) {
         letters.push(entry(first.saturating_add(7 * k), Weights::from([k as u16, 1, 0])))?;
@@ -104,9 +108,9 @@ fn most_runs(rt: HostRuntime) -> Result<(), Fail> {
 }
 
 // Why letters, 120 pairs, so many runs of four, and one run more behind them are turned away.
-fn failure_with(
+pub(crate) fn failure_with(
     heap: Global,
-    letters: &[Letter],
+    letters: &[LetterEntry],
     fours: u32,
     last: &[u32],
 ) -> Result<Option<AddError>, AllocError> {

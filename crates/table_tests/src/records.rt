@@ -6,9 +6,9 @@ use crate::hold::{
 use std::alloc::{AllocError, Global};
 use std::process::Abort;
 use std::test::Fail;
-use table::{AddError, Letter, Refusal, Run, TableBuf, Weights};
+use table::{AddError, LetterEntry, Refusal, Run, TableBuf, Weights};
 
-pub(crate) fn failure(heap: Global, letters: &[Letter], runs: &[Run]) -> Option<AddError> {
+pub(crate) fn failure(heap: Global, letters: &[LetterEntry], runs: &[Run]) -> Option<AddError> {
     TableBuf::of(letters, runs, heap).err()
 }
 
@@ -20,7 +20,7 @@ struct Case(
     Option<Refusal>,
 );
 
-fn letters_of(heap: Global, entries: &[(u32, u16)]) -> Result<Vec<Letter>, AllocError> {
+fn letters_of(heap: Global, entries: &[(u32, u16)]) -> Result<Vec<LetterEntry>, AllocError> {
     let mut letters = Vec::new(heap);
     for (letter, primary) in entries {
         letters.push(entry(*letter, Weights::from([*primary, 0, 0])))?;
@@ -28,7 +28,10 @@ fn letters_of(heap: Global, entries: &[(u32, u16)]) -> Result<Vec<Letter>, Alloc
     Ok(letters)
 }
 
-fn runs_of(heap: Global, all: &[&'static [u32]]) -> Result<Vec<Run<'static>>, AllocError> {
+pub(crate) fn runs_of(
+    heap: Global,
+    all: &[&'static [u32]],
+) -> Result<Vec<Run<'static>>, AllocError> {
     let mut runs = Vec::new(heap);
     for letters in all {
         runs.push(run(*letters, ONE))?;

@@ -175,8 +175,8 @@ fn many_pairs(rt: HostRuntime) -> Result<(), Fail> {
     Ok(())
 }
 
-// A refusal of runs or of how many numbers there are has the number 1, one of letters 4, and one of how long a run is 6. Its
-// place is that of the run or of the entry, how many letters there may be, or 0.
+// A refusal of runs or of how many numbers there are has the number 1, one of letters 4, one of how long a run is 6, and one of
+// what weighs as more than three 7. Its place is that of the run or of the entry, how many letters there may be, or 0.
 #[test]
 fn numbers(rt: HostRuntime) {
     let all = [
@@ -190,6 +190,8 @@ fn numbers(rt: HostRuntime) {
         (Refusal::LetterTwice(9), 4, 9),
         (Refusal::RunLength(0), 6, 0),
         (Refusal::RunLength(10), 6, 10),
+        (Refusal::TooManyTriples(0), 7, 0),
+        (Refusal::TooManyTriples(11), 7, 11),
     ];
     for (why, number, place) in all {
         assert_eq!(rt; why.number(), number);

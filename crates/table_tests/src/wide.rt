@@ -1,6 +1,6 @@
 // A table of names in UTF-8 filled step by step.
 use crate::hold::{
-    Added, NONE, ONE, TWO, add_letters, add_pair, entry, hold_letters, hold_pairs, pair,
+    Added, NONE, ONE, TWO, add_letters, add_pair, entry, hold_letters, hold_pairs, letter, pair,
 };
 use std::test::Fail;
 use table::{Refusal, Table, TableBuf, Weights};
@@ -50,11 +50,11 @@ fn letters(rt: HostRuntime) -> Result<(), Fail> {
     assert_eq!(rt; table.letter_count(), 4);
     let table = table.table();
     assert_eq!(rt; table.letter_count(), 259);
-    assert_eq!(rt; table.letter_at(0), Some(entry(0, NONE)));
-    assert_eq!(rt; table.letter_at(255), Some(entry(255, TWO)));
-    assert_eq!(rt; table.letter_at(256), Some(entry(256, ONE)));
-    assert_eq!(rt; table.letter_at(257), Some(entry(300, TWO)));
-    assert_eq!(rt; table.letter_at(258), Some(entry(65535, ONE)));
+    assert_eq!(rt; table.letter_at(0), Some(letter(0, NONE)));
+    assert_eq!(rt; table.letter_at(255), Some(letter(255, TWO)));
+    assert_eq!(rt; table.letter_at(256), Some(letter(256, ONE)));
+    assert_eq!(rt; table.letter_at(257), Some(letter(300, TWO)));
+    assert_eq!(rt; table.letter_at(258), Some(letter(65535, ONE)));
     assert_eq!(rt; table.letter_at(259), None);
     assert_eq!(rt; table.letter_at(18446744073709551615), None);
     Ok(())

@@ -11,7 +11,7 @@ use Rattle.pieces.specs.Runs.{long_letters, one_or_none}
 use Rattle.texts.specs.declared.line.Entry.{Entry}
 use Rattle.texts.specs.declared.line.Entry.TheVariants.{Letter, Long, Pair}
 use Rattle.texts.specs.Forms.{AreWeighed, AreWeights, IsLetter, IsWeight}
-use Rattle.texts.specs.Lines.{letter_entry, letter_weighs, long_weighs, pair_entry, pair_weighs, run_entry, three_weights, weights_from}
+use Rattle.texts.specs.Lines.{long_weighs, pair_entry, pair_weighs, run_entry, three_weights, weights_from}
 use Rattle.texts.specs.Numerals.{hex_of, letter_of, number_of, one_letter}
 use Rattle.texts.specs.Parts.{words}
 use Rattle.texts.proofs.Cutting.{IsCut, IsFree, cut, parts_first, parts_free, parts_of}
@@ -35,10 +35,10 @@ some_from : (r : Option ℕ) (P : Type 0) (v : ℕ) → SomeIff r P v → P → 
 some_from r P v h p = same_some r (Some v) P v h (p, refl)
 
 -- a weight
-weight_form : (w : List ℕ) (n : ℕ) → number_of w ≡ Some n → IsWeight w n
+pub weight_form : (w : List ℕ) (n : ℕ) → number_of w ≡ Some n → IsWeight w n
 weight_form w n e = let h = some_tells (number_of w) _ _ n (number_reads w) e in (h.0.0, h.1, omega arith)
 
-weight_read : (w : List ℕ) (n : ℕ) → IsWeight w n → number_of w ≡ Some n
+pub weight_read : (w : List ℕ) (n : ℕ) → IsWeight w n → number_of w ≡ Some n
 weight_read w n h = some_from (number_of w) _ _ (number_reads w) (h.0, omega arith) ∙ ap Some h.1
 
 -- a letter by its number
@@ -68,7 +68,7 @@ unfolding letter_of
 itself_read a e = let h = by_ranges.0 a e in rw (unsigned a, h.0, h.1)
 
 -- any letter
-letter_form : (w : List ℕ) (a : ℕ) → IsFree 32 w → letter_of w ≡ Some a → IsLetter w a
+pub letter_form : (w : List ℕ) (a : ℕ) → IsFree 32 w → letter_of w ≡ Some a → IsLetter w a
 unfolding letter_of
 letter_form w a f e = go (eqb (get_or w 0 0) 85 && eqb (get_or w 1 0) 43) (signed w) e
   where
@@ -76,7 +76,7 @@ letter_form w a f e = go (eqb (get_or w 0 0) 85 && eqb (get_or w 1 0) 43) (signe
     go true u e = let h = some_tells (hex_of (drop 2 w)) _ _ a (hex_reads (drop 2 w)) e in inr (drop 2 w, u refl, h.0.0.0, h.0.0.1, h.0.1, h.1)
     go false u e = itself_form w a f e
 
-letter_read : (w : List ℕ) (a : ℕ) → IsLetter w a → letter_of w ≡ Some a
+pub letter_read : (w : List ℕ) (a : ℕ) → IsLetter w a → letter_of w ≡ Some a
 unfolding letter_of
 letter_read w a (inl h) = ap letter_of h.0 ∙ itself_read a h.1
 letter_read w a (inr h) = ap letter_of h.1 ∙ (some_from (hex_of h.0) _ _ (hex_reads h.0) ((h.2, h.3), h.4) ∙ ap Some h.5)
@@ -100,12 +100,12 @@ bytes_free a n = one (ltb a 128) refl
     one true e = rw (in_one a (ltb-true a 128 e)) (n, tt)
     one false e = two (ltb a 2048) (ltb-false a 128 e) refl
 
-letter_free : (w : List ℕ) (a : ℕ) → IsLetter w a → IsFree 32 w
+pub letter_free : (w : List ℕ) (a : ℕ) → IsLetter w a → IsFree 32 w
 letter_free w a (inl h) = rw h.0 (bytes_free a h.2)
 letter_free w a (inr h) = rw h.1 (λ e. absurd (omega arith), (λ e. absurd (omega arith), digits_free 32 16 refl (omega arith) h.0 h.4))
 
 -- three weights
-three_form : (a b c : Option ℕ) (w : Weights) → weights_from a b c ≡ Some w → (a ≡ Some w.primary) × (b ≡ Some w.secondary) × (c ≡ Some w.tertiary)
+pub three_form : (a b c : Option ℕ) (w : Weights) → weights_from a b c ≡ Some w → (a ≡ Some w.primary) × (b ≡ Some w.secondary) × (c ≡ Some w.tertiary)
 three_form None b c w e = none_some w e
 three_form (Some p) None c w e = none_some w e
 three_form (Some p) (Some s) None w e = none_some w e
@@ -117,7 +117,7 @@ three_form (Some p) (Some s) (Some t) w e =
 more_words : (p s t u : List ℕ) → three_weights (p ∷ (s ∷ (t ∷ words u))) ≡ None
 more_words p s t u = rw (parts_first 32 u) refl
 
-weights_form : (y : List ℕ) (w : Weights) → three_weights (words y) ≡ Some w → AreWeights y w
+pub weights_form : (y : List ℕ) (w : Weights) → three_weights (words y) ≡ Some w → AreWeights y w
 weights_form y w e = one (cut 32 y)
   where
     three : (p r s q : List ℕ) → y ≡ p ++ 32 ∷ r → r ≡ s ++ 32 ∷ q → three_weights (p ∷ (s ∷ words q)) ≡ Some w → IsCut 32 q → AreWeights y w
@@ -134,7 +134,7 @@ weights_form y w e = one (cut 32 y)
     one (inl f) = none_some w (ap three_weights (sym (parts_free 32 y f)) ∙ e)
     one (inr g) = two g.0 g.1 g.3 (ap three_weights (sym (parts_of 32 g.0 g.1 y g.2 g.3)) ∙ e) (cut 32 g.1)
 
-weights_words : (y : List ℕ) (w : Weights) (h : AreWeights y w) → words y ≡ h.0 ∷ (h.1 ∷ (h.2 ∷ []))
+pub weights_words : (y : List ℕ) (w : Weights) (h : AreWeights y w) → words y ≡ h.0 ∷ (h.1 ∷ (h.2 ∷ []))
 weights_words y w h =
     rw (
       parts_of 32 h.0 (h.1 ++ 32 ∷ h.2) y (weight_free h.0 w.primary h.3) h.6,
@@ -144,29 +144,6 @@ weights_words y w h =
 
 weights_read : (y : List ℕ) (w : Weights) → AreWeights y w → three_weights (words y) ≡ Some w
 weights_read y w h = rw (weights_words y w h, weight_read h.0 w.primary h.3, weight_read h.1 w.secondary h.4, weight_read h.2 w.tertiary h.5) refl
-
--- what stands behind the word letter
-abbrev pub IsLetterEntry : List ℕ → Entry → Type 0
-IsLetterEntry text e =
-    (a : ℕ) × (w : Weights) × (x : List ℕ) × (y : List ℕ) × (e ≡ Letter (record { letter = a; weights = w })) × IsLetter x a × AreWeights y w × (text ≡ x ++ 32 ∷ y)
-
-letter_parts : (a : Option ℕ) (v : Option Weights) (e : Entry) → letter_weighs a v ≡ Some e →
-    (b : ℕ) × (w : Weights) × (a ≡ Some b) × (v ≡ Some w) × (e ≡ Letter (record { letter = b; weights = w }))
-letter_parts None v e k = none_some e k
-letter_parts (Some a) None e k = none_some e k
-letter_parts (Some a) (Some w) e k = (a, w, refl, refl, cc)
-
-pub letter_entry_form : (text : List ℕ) (e : Entry) → letter_entry (words text) ≡ Some e → IsLetterEntry text e
-letter_entry_form text e k = go (cut 32 text)
-  where
-    go : IsCut 32 text → IsLetterEntry text e
-    go (inl f) = let h = letter_parts (letter_of text) None e (ap letter_entry (sym (parts_free 32 text f)) ∙ k) in none_some h.1 h.3
-    go (inr g) =
-        let h = letter_parts (letter_of g.0) (three_weights (words g.1)) e (ap letter_entry (sym (parts_of 32 g.0 g.1 text g.2 g.3)) ∙ k) in
-        (h.0, h.1, g.0, g.1, h.4, letter_form g.0 h.0 g.2 h.2, weights_form g.1 h.1 h.3, g.3)
-
-pub letter_entry_read : (a : ℕ) (w : Weights) (x y : List ℕ) → IsLetter x a → AreWeights y w → letter_entry (words (x ++ 32 ∷ y)) ≡ Some (Letter (record { letter = a; weights = w }))
-letter_entry_read a w x y h k = rw (parts_of 32 x y (x ++ 32 ∷ y) (letter_free x a h) refl, letter_read x a h, weights_read y w k) refl
 
 -- what stands behind the word pair
 abbrev pub IsPairEntry : List ℕ → Entry → Type 0
@@ -200,7 +177,7 @@ pair_entry_read a b w x y z h i k =
     rw (parts_of 32 x (y ++ 32 ∷ z) (x ++ 32 ∷ (y ++ 32 ∷ z)) (letter_free x a h) refl, parts_of 32 y z (y ++ 32 ∷ z) (letter_free y b i) refl, letter_read x a h, letter_read y b i, weights_read z w k) refl
 
 -- a first word with others behind it
-next_word : (t x y : List ℕ) (ws : List (List ℕ)) → words t ≡ x ∷ (y ∷ ws) → (rest : List ℕ) × IsFree 32 x × (words rest ≡ y ∷ ws) × (t ≡ x ++ 32 ∷ rest)
+pub next_word : (t x y : List ℕ) (ws : List (List ℕ)) → words t ≡ x ∷ (y ∷ ws) → (rest : List ℕ) × IsFree 32 x × (words rest ≡ y ∷ ws) × (t ≡ x ++ 32 ∷ rest)
 next_word t x y ws q = go (cut 32 t)
   where
     go : IsCut 32 t → (rest : List ℕ) × IsFree 32 x × (words rest ≡ y ∷ ws) × (t ≡ x ++ 32 ∷ rest)

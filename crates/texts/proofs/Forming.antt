@@ -14,8 +14,9 @@ use Rattle.texts.specs.Lines.{Meaning, Saying, blank, by_word, command_of, damag
 use Rattle.texts.specs.Parts.{behind, front, words}
 use Rattle.texts.proofs.Cutting.{IsCut, IsFree, behind_free, behind_of, cut, front_free, front_of}
 use Rattle.texts.proofs.Damage.{are_read, letters_are}
-use Rattle.texts.proofs.Entering.{IsRunEntry, letter_entry_form, letter_entry_read, none_some, pair_entry_form, pair_entry_read, run_read, run_words_form}
+use Rattle.texts.proofs.Entering.{IsRunEntry, none_some, pair_entry_form, pair_entry_read, run_read, run_words_form}
 use Rattle.texts.proofs.Saying.{blank_line, damaged_line, some_line}
+use Rattle.texts.proofs.Weighing.{letter_entry_form, letter_entry_read}
 use Rattle.utf8.specs.Reading.{unread}
 
 -- a line with the word run in front, and what stands behind that

@@ -6,4 +6,5 @@ pub mod Joining
 pub mod Reading
 pub mod Returning
 pub mod Saying
+pub mod Weighing
 pub mod Writing

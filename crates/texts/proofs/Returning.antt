@@ -8,15 +8,17 @@ use Rattle.std.proofs.lemmas.List.Elements.{All-head, All-tail}
 use Rattle.std.specs.List.{All}
 use Rattle.std.specs.Char.{digit_value}
 use Rattle.std.specs.Str.Parse.{AllDigits}
+use Rattle.pieces.specs.declared.piece.Triples.{Triples}
+use Rattle.pieces.specs.declared.piece.Triples.TheVariants.{Excess, One, Several}
 use Rattle.pieces.specs.declared.piece.Weights.{Weights}
-use Rattle.pieces.specs.Runs.{long_letters, one_or_none}
+use Rattle.pieces.specs.Runs.{expanded, long_letters, one_or_none}
 use Rattle.texts.specs.declared.line.Entry.{Entry}
 use Rattle.texts.specs.declared.line.Entry.TheVariants.{Letter, Long, Pair}
-use Rattle.texts.specs.Forms.{AreWeighed, AreWeights, HasForm, IsLetter, IsWeight}
-use Rattle.texts.specs.Laws.{AreShort, MayStand, ReadsBack}
+use Rattle.texts.specs.Forms.{AreSeveral, AreTriples, AreWeighed, AreWeights, HasForm, IsLetter, IsWeight}
+use Rattle.texts.specs.Laws.{AreShort, MayStand, MayWeigh, ReadsBack}
 use Rattle.texts.specs.Lines.{Saying, enters, finds, meaning_of, names, says, wants_key}
 use Rattle.texts.specs.Parts.{without_return}
-use Rattle.texts.specs.Written.{hex_text, letter_text, letters_text, saying_text, weights_text}
+use Rattle.texts.specs.Written.{hex_text, letter_text, letters_text, saying_text, several_text, triples_text, weights_text}
 use Rattle.texts.proofs.Cutting.{IsFree, free_append, free_places, parts_free}
 use Rattle.texts.proofs.Forming.{form_read}
 use Rattle.texts.proofs.Writing.{hex_again}
@@ -52,9 +54,20 @@ letters_written a (b ∷ bs) w h l =
       append_assoc (letter_text a) (codes " " ++ rest) (codes " " ++ weights_text w),
     )
 
+several_written : (w : Weights) (ws : List Weights) → All AreShort (w ∷ ws) → AreSeveral (several_text (w ∷ ws)) (w ∷ ws)
+several_written w [] h = weights_written w (All-head AreShort w [] h)
+several_written w (v ∷ ws) h = (weights_text w, several_text (v ∷ ws), weights_written w (All-head AreShort w (v ∷ ws) h), several_written v ws (All-tail AreShort w (v ∷ ws) h), refl)
+
+triples_written : (t : Triples) → MayWeigh t → (x : List ℕ) × AreTriples x t × (triples_text t ≡ codes " " ++ x)
+triples_written (One w) h = (weights_text w, weights_written w h, refl)
+triples_written (Several e) h = (several_text (expanded e), several_written e.first (e.second ∷ one_or_none e.third) h, refl)
+triples_written Excess h = absurd h
+
 -- a command that is written has its form
 form_written : (s : Saying) → MayStand s → HasForm s (saying_text s)
-form_written (enters (Letter e)) h = (letter_text e.letter, weights_text e.weights, letter_written e.letter h.0, weights_written e.weights h.1, refl)
+form_written (enters (Letter e)) h =
+    let k = triples_written e.weights h.1 in
+    (letter_text e.letter, k.0, letter_written e.letter h.0, k.1, ap (λ l. codes "letter " ++ (letter_text e.letter ++ l)) k.2)
 form_written (enters (Pair p)) h = inl (letter_text p.first, letter_text p.second, weights_text p.weights, letter_written p.first h.0, letter_written p.second h.1, weights_written p.weights h.2, refl)
 form_written (enters (Long e)) h = (letters_text (long_letters e.run) ++ (codes " " ++ weights_text e.weights), letters_written e.run.first (e.run.second ∷ (e.run.third ∷ one_or_none e.run.fourth)) e.weights h.0 h.1, refl)
 form_written (finds n) h = inr refl
@@ -93,12 +106,21 @@ behind_space xs ys f g = seen_append xs (codes " " ++ ys) f (omega arith, omega 
 weights_seen : (w : Weights) → AreShort w → IsSeen (weights_text w)
 weights_seen w l = behind_space (decimal w.primary) _ (decimal_seen w.primary l.0) (behind_space (decimal w.secondary) _ (decimal_seen w.secondary l.1) (decimal_seen w.tertiary l.2))
 
+several_seen : (w : Weights) (ws : List Weights) → All AreShort (w ∷ ws) → IsSeen (several_text (w ∷ ws))
+several_seen w [] h = weights_seen w (All-head AreShort w [] h)
+several_seen w (v ∷ ws) h = behind_space (weights_text w) _ (weights_seen w (All-head AreShort w (v ∷ ws) h)) (several_seen v ws (All-tail AreShort w (v ∷ ws) h))
+
+triples_seen : (t : Triples) → MayWeigh t → IsSeen (triples_text t)
+triples_seen (One w) h = (omega arith, omega arith, weights_seen w h)
+triples_seen (Several e) h = (omega arith, omega arith, several_seen e.first (e.second ∷ one_or_none e.third) h)
+triples_seen Excess h = absurd h
+
 letters_seen : (a : ℕ) (bs : List ℕ) → All IsSmall (a ∷ bs) → IsSeen (letters_text (a ∷ bs))
 letters_seen a [] h = letter_seen a (All-head IsSmall a [] h)
 letters_seen a (b ∷ bs) h = behind_space (letter_text a) _ (letter_seen a (All-head IsSmall a (b ∷ bs) h)) (letters_seen b bs (All-tail IsSmall a (b ∷ bs) h))
 
 entry_seen : (e : Entry) → MayStand (enters e) → IsSeen (saying_text (enters e))
-entry_seen (Letter e) h = seen_append (codes "letter ") _ (search (rules, arith)) (behind_space (letter_text e.letter) _ (letter_seen e.letter h.0) (weights_seen e.weights h.1))
+entry_seen (Letter e) h = seen_append (codes "letter ") _ (search (rules, arith)) (seen_append (letter_text e.letter) _ (letter_seen e.letter h.0) (triples_seen e.weights h.1))
 entry_seen (Pair p) h =
     seen_append (codes "pair ") _ (search (rules, arith))
     (behind_space (letter_text p.first) _ (letter_seen p.first h.0) (behind_space (letter_text p.second) _ (letter_seen p.second h.1) (weights_seen p.weights h.2)))

@@ -1,8 +1,10 @@
 -- The forms that lines have, as anybody would write them down.
 use Rattle.std.specs.Prelude.{◌≡◌, ◌≢◌, ℕ, ◌^◌, ◌<◌, ◌≤◌, ◌⊎◌, true, List, [], ◌∷◌, ◌++◌, codes, length, take, drop}
 use Rattle.std.specs.Str.Parse.{AllDigits, IsNumeral, digits_value}
+use Rattle.pieces.specs.declared.piece.Triples.{Triples}
+use Rattle.pieces.specs.declared.piece.Triples.TheVariants.{Excess, One, Several}
 use Rattle.pieces.specs.declared.piece.Weights.{Weights}
-use Rattle.pieces.specs.Runs.{long_letters}
+use Rattle.pieces.specs.Runs.{expanded, long_letters}
 use Rattle.texts.specs.declared.line.Entry.{Entry}
 use Rattle.texts.specs.Lines.{Saying, enters, finds, names, wants_key}
 use Rattle.texts.specs.declared.line.Entry.TheVariants.{Letter, Long, Pair}
@@ -33,6 +35,18 @@ AreWeights x w =
     (p : List ℕ) × (s : List ℕ) × (t : List ℕ) × IsWeight p w.primary × IsWeight s w.secondary × IsWeight t w.tertiary
     × (x ≡ p ++ (codes " " ++ (s ++ (codes " " ++ t))))
 
+-- triples of weights, one or more, have a space between
+abbrev pub AreSeveral : List ℕ → List Weights → Type 0
+AreSeveral x [] = ⊥
+AreSeveral x (w ∷ []) = AreWeights x w
+AreSeveral x (w ∷ (v ∷ ws)) = (y : List ℕ) × (rest : List ℕ) × AreWeights y w × AreSeveral rest (v ∷ ws) × (x ≡ y ++ (codes " " ++ rest))
+
+-- what a letter weighs is one triple, or two or three where it weighs so; more than three have a form too, and no table takes them
+abbrev pub AreTriples : List ℕ → Triples → Type 0
+AreTriples x (One w) = AreWeights x w
+AreTriples x (Several e) = AreSeveral x (expanded e)
+AreTriples x Excess = (ws : List Weights) × (4 ≤ length ws) × AreSeveral x ws
+
 -- letters one after the other, a space behind each, and then their weights
 abbrev pub AreWeighed : (letters : List ℕ) → Weights → List ℕ → Type 0
 AreWeighed [] w t = AreWeights t w
@@ -61,7 +75,7 @@ IsReserved w = (w ≡ codes "letter") ⊎ ((w ≡ codes "pair") ⊎ ((w ≡ code
 -- nor with a text behind, and is no run
 abbrev pub HasForm : Saying → (line : List ℕ) → Type 0
 HasForm (enters (Letter e)) l =
-    (x : List ℕ) × (y : List ℕ) × IsLetter x e.letter × AreWeights y e.weights × (l ≡ codes "letter " ++ (x ++ (codes " " ++ y)))
+    (x : List ℕ) × (y : List ℕ) × IsLetter x e.letter × AreTriples y e.weights × (l ≡ codes "letter " ++ (x ++ (codes " " ++ y)))
 HasForm (enters (Pair p)) l =
     ((x : List ℕ) × (y : List ℕ) × (z : List ℕ) × IsLetter x p.first × IsLetter y p.second × AreWeights z p.weights
     × (l ≡ codes "pair " ++ (x ++ (codes " " ++ (y ++ (codes " " ++ z))))))

@@ -1,8 +1,10 @@
 -- What is promised of texts and lines.
 use Rattle.std.specs.Prelude.{◌≡◌, ℕ, ◌-◌, ◌^◌, ◌<◌, List, [], ◌∷◌, ◌++◌, length, None, slice_index}
 use Rattle.std.specs.List.{All, join_with_byte}
+use Rattle.pieces.specs.declared.piece.Triples.{Triples}
+use Rattle.pieces.specs.declared.piece.Triples.TheVariants.{Excess, One, Several}
 use Rattle.pieces.specs.declared.piece.Weights.{Weights}
-use Rattle.pieces.specs.Runs.{long_letters}
+use Rattle.pieces.specs.Runs.{expanded, long_letters}
 use Rattle.texts.specs.Forms.{AreLetters, HasForm, IsDamage}
 use Rattle.texts.specs.Lines.{Saying, damaged, enters, finds, meaning_of, names, says, unreadable, wants_key}
 use Rattle.texts.specs.Parts.{parts, without_return}
@@ -42,13 +44,19 @@ NoOther = (l : List ℕ) → (meaning_of l ≡ unreadable → HasNone l) × (Has
 abbrev pub AreShort : Weights → Type 0
 AreShort w = (w.primary < 2 ^ 16) × (w.secondary < 2 ^ 16) × (w.tertiary < 2 ^ 16)
 
+-- one, two or three triples of such
+abbrev pub MayWeigh : Triples → Type 0
+MayWeigh (One w) = AreShort w
+MayWeigh (Several e) = All AreShort (expanded e)
+MayWeigh Excess = ⊥
+
 -- a text that can stand in a line: it is in UTF-8, no line feed is in it, and no carriage return at its end
 abbrev pub IsInLine : List ℕ → Type 0
 IsInLine n = (unread n ≡ None) × IsWithout 10 n × (slice_index n (length n - 1) ≡ 13 → ⊥)
 
 -- a command that can stand in a line; six hexadecimal digits say letters below 16,777,216
 abbrev pub MayStand : Saying → Type 0
-MayStand (enters (Letter e)) = (e.letter < 2 ^ 24) × AreShort e.weights
+MayStand (enters (Letter e)) = (e.letter < 2 ^ 24) × MayWeigh e.weights
 MayStand (enters (Pair p)) = (p.first < 2 ^ 24) × (p.second < 2 ^ 24) × AreShort p.weights
 MayStand (enters (Long e)) = All (λ a. a < 2 ^ 24) (long_letters e.run) × AreShort e.weights
 MayStand (finds n) = IsInLine n

@@ -2,6 +2,8 @@
 use Rattle.std.specs.Prelude.{ℕ, cond, List, [], ◌∷◌, Some, None, codes, Option}
 use Rattle.std.specs.Option.{option_map}
 use Rattle.std.specs.Str.{bytes_eq}
+use Rattle.pieces.specs.declared.piece.Triples.{Triples}
+use Rattle.pieces.specs.declared.piece.Triples.TheVariants.{Excess, One, Several}
 use Rattle.pieces.specs.declared.piece.Weights.{Weights}
 use Rattle.texts.specs.declared.line.Command.{Command}
 use Rattle.texts.specs.declared.line.Command.TheVariants.{Enter, Find, Key, Name}
@@ -30,8 +32,30 @@ three_weights (a ∷ (b ∷ [])) = None
 three_weights (a ∷ (b ∷ (c ∷ []))) = weights_from (number_of a) (number_of b) (number_of c)
 three_weights (a ∷ (b ∷ (c ∷ (d ∷ ws)))) = None
 
--- a letter and its weights; whether it is one of the table is for the table to say
-abbrev pub letter_weighs : Option ℕ → Option Weights → Option Entry
+-- a triple in front of others, where all are there
+abbrev pub in_front : Option Weights → Option (List Weights) → Option (List Weights)
+in_front None ws = None
+in_front (Some w) None = None
+in_front (Some w) (Some ws) = Some (w ∷ ws)
+
+-- words in threes, each three the weights of a triple; none where words are left over, or one is no weight
+abbrev pub in_threes : List (List ℕ) → Option (List Weights)
+in_threes [] = Some []
+in_threes (a ∷ []) = None
+in_threes (a ∷ (b ∷ [])) = None
+in_threes (a ∷ (b ∷ (c ∷ ws))) = in_front (weights_from (number_of a) (number_of b) (number_of c)) (in_threes ws)
+
+-- triples by how many they are; more than three are for the table to turn away
+abbrev pub as_triples : Option (List Weights) → Option Triples
+as_triples None = None
+as_triples (Some []) = None
+as_triples (Some (u ∷ [])) = Some (One u)
+as_triples (Some (u ∷ (v ∷ []))) = Some (Several (record { first = u; second = v; third = None }))
+as_triples (Some (u ∷ (v ∷ (w ∷ [])))) = Some (Several (record { first = u; second = v; third = Some w }))
+as_triples (Some (u ∷ (v ∷ (w ∷ (x ∷ ws))))) = Some Excess
+
+-- a letter and what it weighs; whether it is one of the table is for the table to say
+abbrev pub letter_weighs : Option ℕ → Option Triples → Option Entry
 letter_weighs None w = None
 letter_weighs (Some a) None = None
 letter_weighs (Some a) (Some w) = Some (Letter (record { letter = a; weights = w }))
@@ -39,7 +63,7 @@ letter_weighs (Some a) (Some w) = Some (Letter (record { letter = a; weights = w
 -- what stands behind the word letter
 abbrev pub letter_entry : List (List ℕ) → Option Entry
 letter_entry [] = None
-letter_entry (x ∷ ws) = letter_weighs (letter_of x) (three_weights ws)
+letter_entry (x ∷ ws) = letter_weighs (letter_of x) (as_triples (in_threes ws))
 
 -- a pair and its weights; whether its letters are known is for the table to say
 abbrev pub pair_weighs : Option ℕ → Option ℕ → Option Weights → Option Entry

@@ -21,7 +21,8 @@ pub enum Fault {
 }
 
 impl Fault {
-    // The number that is reported: 1 a table, 2 a name, 3 a text, 4 a letter, 5 bytes, 6 how many letters a run has.
+    // The number that is reported: 1 a table, 2 a name, 3 a text, 4 a letter, 5 bytes, 6 how many letters a run has, 7 how
+    // many triples a letter has.
     pub fn number(self) -> u64
         ensures { result ≡ fault_number self }
     {
@@ -54,7 +55,7 @@ impl Fault {
             Fault::Name(why) => name_sentence(why),
             Fault::Question(why) => question_sentence(why),
             Fault::Text(_) =>
-                "a line that begins so is 'letter X a b c' or 'pair X Y a b c', one space between, letters as themselves or as U+ and four to six hexadecimal digits, weights up to 65535; a name that begins so needs 'name ' in front",
+                "a line that begins so is 'letter X a b c', with six or nine weights where X weighs as two or three, or 'pair X Y a b c', one space between, letters as themselves or as U+ and four to six hexadecimal digits, weights up to 65535; a name that begins so needs 'name ' in front",
             Fault::Bytes(_) => bytes_sentence(),
         }
     }
@@ -74,6 +75,7 @@ fn refusal_sentence(why: Refusal) -> &'static str
         Refusal::NoLetter(_) => "letters are U+0000 to U+FFFF, without U+D800 to U+DFFF",
         Refusal::LetterTwice(_) => "this letter weighs something already",
         Refusal::RunLength(_) => "a run has two to four letters",
+        Refusal::TooManyTriples(_) => "a letter weighs as three at the most",
     }
 }
 

@@ -1,20 +1,21 @@
 // What a line says.
-ghost use Rattle.std.specs.Prelude.{◌≡◌};
+ghost use Rattle.std.specs.Prelude.{◌≡◌, List, [], ◌∷◌, ◌++◌, Some};
 ghost use Rattle.std.specs.Option.{option_map};
-ghost use Rattle.texts.specs.Lines.{command_of, letter_entry, meaning, meaning_of, pair_entry, run_entry, saying, three_weights, weights_from, word_of};
+ghost use Rattle.pieces.specs.declared.piece.Weights.{Weights};
+ghost use Rattle.texts.specs.Lines.{as_triples, command_of, in_threes, letter_entry, meaning, meaning_of, pair_entry, run_entry, saying, three_weights, weights_from, word_of};
 ghost use Rattle.texts.specs.Numerals.{number_of};
 ghost use Rattle.texts.specs.Parts.{words};
 
 use crate::numeral::{letter_number, number};
 use crate::part::{Cut, Parts, first_part};
-use table::{Letter, Long, LongRun, Pair, Weights};
+use table::{Expanded, LetterEntry, Long, LongRun, Pair, Triples, Weights};
 use utf8::count_letters;
 
 // What a line of a table enters.
 #[derive(Clone, Copy, PartialEq, Eq, Debug)]
 pub enum Entry {
-    // `letter X a b c`: what a letter weighs.
-    Letter(Letter),
+    // `letter X a b c`, with six or nine weights where it weighs as two or three: what a letter weighs.
+    Letter(LetterEntry),
     // `pair X Y a b c`, or `run X Y a b c`: two letters that are one together.
     Pair(Pair),
     // `run X Y Z a b c`, or `run X Y Z W a b c`: three or four letters that are.
@@ -112,14 +113,14 @@ impl Word {
     }
 }
 
-// A letter and its weights.
+// A letter and what it weighs.
 fn read_letter(text: &[u8]) -> Option<Entry>
     ensures { result ≡ letter_entry (words text.now) }
 {
     let mut words = Parts::new(text, b' ');
     let letter = letter_number(words.next()?)?;
-    let weights = read_weights(words)?;
-    Some(Entry::Letter(Letter { letter, weights }))
+    let weights = read_triples(words)?;
+    Some(Entry::Letter(LetterEntry { letter, weights }))
 }
 
 // Two letters and what they weigh together.
@@ -179,6 +180,39 @@ fn read_run(text: &[u8]) -> Option<Entry>
             Some(Entry::Long(Long { run, weights }))
         }
         _ => None,
+    }
+}
+
+// One triple of weights or more, and nothing behind.
+fn read_triples(mut words: Parts) -> Option<Triples>
+    ensures { result ≡ as_triples (in_threes words.entry) }
+{
+    let mut triples = None;
+    while let Some(primary) = words.next() {
+        let secondary = words.next()?;
+        let tertiary = words.next()?;
+        let weights = weights_of(primary, secondary, tertiary)?;
+        triples = Some(one_more(triples, weights));
+    }
+    triples
+}
+
+// A triple behind others.
+fn one_more(triples: Option<Triples>, weights: Weights) -> Triples
+    ensures { (ws : List Weights) → triples ≡ as_triples (Some ws) → Some result ≡ as_triples (Some (ws ++ weights ∷ [])) }
+{
+    match triples {
+        None => Triples::One(weights),
+        Some(Triples::One(first)) => Triples::Several(Expanded {
+            first,
+            second: weights,
+            third: None,
+        }),
+        Some(Triples::Several(two)) if two.third.is_none() => Triples::Several(Expanded {
+            third: Some(weights),
+            ..two
+        }),
+        Some(_) => Triples::Excess,
     }
 }
 

@@ -1,12 +1,12 @@
 // Letters, entries, the numbers of keys and what a newer table changes, as they are written.
 ghost use Rattle.std.specs.Prelude.{◌≡◌, Some};
-ghost use Rattle.texts.specs.Written.{change_text, entry_text, letter_text, level_number, numbers_text, piece_text, weights_text};
+ghost use Rattle.texts.specs.Written.{change_text, entry_text, letter_text, level_number, numbers_text, piece_text, triples_text, weights_text};
 
 use crate::line::Entry;
 use keys::Level;
 use order::{Change, Piece};
 use std::fmt;
-use table::Weights;
+use table::{Triples, Weights};
 
 // A letter, as itself where it can be seen and else as `U+00FC`.
 #[derive(Clone, Copy)]
@@ -32,8 +32,8 @@ impl fmt::Display for Entry {
         match *self {
             Entry::Letter(entry) => {
                 let letter = Letter(entry.letter);
-                let weights = Levels(entry.weights);
-                write!(f, "letter {letter} {weights}")
+                let triples = LetterLevels(entry.weights);
+                write!(f, "letter {letter}{triples}")
             }
             Entry::Pair(pair) => {
                 let first = Letter(pair.first);
@@ -64,6 +64,35 @@ impl fmt::Display for Levels {
             tertiary,
         } = self.0;
         write!(f, "{primary} {secondary} {tertiary}")
+    }
+}
+
+// What stands behind a letter: a space and its triples; nothing where they are more than three, which no letter of a table has.
+#[derive(Clone, Copy)]
+struct LetterLevels(Triples);
+
+impl fmt::Display for LetterLevels {
+    ghost output = { λ x. Some (triples_text x.0) };
+
+    fn fmt<W: fmt::Write>(&self, f: &mut fmt::Formatter<W>) -> fmt::Result {
+        match self.0 {
+            Triples::One(weights) => {
+                let weights = Levels(weights);
+                write!(f, " {weights}")
+            }
+            Triples::Several(expanded) => {
+                let first = Levels(expanded.first);
+                let second = Levels(expanded.second);
+                match expanded.third {
+                    None => write!(f, " {first} {second}"),
+                    Some(third) => {
+                        let third = Levels(third);
+                        write!(f, " {first} {second} {third}")
+                    }
+                }
+            }
+            Triples::Excess => Ok(()),
+        }
     }
 }
 
@@ -98,6 +127,10 @@ impl fmt::Display for Told {
             Change::Joins(piece) => {
                 let piece = Letters(piece);
                 write!(f, "{piece} are one together in only one of the tables")
+            }
+            Change::Expands(piece) => {
+                let piece = Letters(piece);
+                write!(f, "{piece} weighs as another number of letters than before")
             }
             Change::Counts(piece, level) => {
                 let piece = Letters(piece);

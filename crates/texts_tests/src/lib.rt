@@ -6,4 +6,6 @@ mod read;
 #[cfg(test)]
 mod runs;
 #[cfg(test)]
+mod triples;
+#[cfg(test)]
 mod write;

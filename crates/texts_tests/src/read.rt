@@ -1,6 +1,6 @@
 // What lines say.
 use std::process::Abort;
-use table::{Letter, Pair, Weights};
+use table::{LetterEntry, Pair, Triples, Weights};
 use texts::{Command, Entry, Line, Parts, whole_number, without_return};
 
 pub(crate) const ONE: Weights = Weights {
@@ -10,7 +10,10 @@ pub(crate) const ONE: Weights = Weights {
 };
 
 fn letter(letter: u32, weights: Weights) -> Line<'static> {
-    Line::Says(Command::Enter(Entry::Letter(Letter { letter, weights })))
+    Line::Says(Command::Enter(Entry::Letter(LetterEntry {
+        letter,
+        weights: Triples::One(weights),
+    })))
 }
 
 pub(crate) fn pair(first: u32, second: u32) -> Line<'static> {

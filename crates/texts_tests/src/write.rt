@@ -2,7 +2,7 @@
 use keys::{Level, NameRefusal};
 use order::{Change, Piece};
 use std::test::Fail;
-use table::{Letter, Long, LongRun, Pair, Refusal, Weights};
+use table::{LetterEntry, Long, LongRun, Pair, Refusal, Triples, Weights};
 use texts::{Command, Entry, Fault, Line, Numbers, Told, without_return};
 
 const ONE: Weights = Weights {
@@ -45,9 +45,9 @@ fn entries(rt: HostRuntime) -> Result<(), Fail> {
 struct Text(u32, &'static str);
 
 fn letter(letter: u32) -> Entry {
-    Entry::Letter(Letter {
+    Entry::Letter(LetterEntry {
         letter,
-        weights: ONE,
+        weights: Triples::One(ONE),
     })
 }
 
@@ -168,6 +168,10 @@ fn messages(rt: HostRuntime) -> Result<(), Fail> {
             "turned away with 6 at 3: a run has two to four letters",
         ),
         Said(
+            Fault::Table(Refusal::TooManyTriples(4)),
+            "turned away with 7 at 4: a letter weighs as three at the most",
+        ),
+        Said(
             Fault::Table(Refusal::TooManyLetters),
             "turned away with 4 at 2000: a table has at most 2000 letters that weigh something",
         ),
@@ -197,7 +201,7 @@ fn messages(rt: HostRuntime) -> Result<(), Fail> {
         ),
         Said(
             Fault::Text(1),
-            "turned away with 3 at 1: a line that begins so is 'letter X a b c' or 'pair X Y a b c', one space between, letters as themselves or as U+ and four to six hexadecimal digits, weights up to 65535; a name that begins so needs 'name ' in front",
+            "turned away with 3 at 1: a line that begins so is 'letter X a b c', with six or nine weights where X weighs as two or three, or 'pair X Y a b c', one space between, letters as themselves or as U+ and four to six hexadecimal digits, weights up to 65535; a name that begins so needs 'name ' in front",
         ),
         Said(
             Fault::Bytes(9),
@@ -262,6 +266,11 @@ fn changes(rt: HostRuntime) -> Result<(), Fail> {
     assert_eq!(rt;
         joined.as_str(),
         "d z s are one together in only one of the tables"
+    );
+    let expands = Told(Change::Expands(Piece::Letter(0xdf))).to_string(heap)?;
+    assert_eq!(rt;
+        expands.as_str(),
+        "U+00DF weighs as another number of letters than before"
     );
     Ok(())
 }

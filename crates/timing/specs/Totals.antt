@@ -3,7 +3,7 @@ use Rattle.std.specs.Prelude.{◌≡◌, ℕ, zero, suc, ◌+◌, ◌-◌, ◌%�
 use Rattle.catalogue.specs.Arranging.{Arranged}
 use Rattle.catalogue.specs.Entry.{are_listed, is_table}
 use Rattle.catalogue.specs.Finding.{looked_through, may_ask}
-use Rattle.catalogue.specs.Lists.{Lists, lists, name_at, name_of, names_fault}
+use Rattle.catalogue.specs.Lists.{Lists, lists, name_of, names_fault}
 use Rattle.keys.specs.Rows.{key}
 use Rattle.order.specs.Names.{name_before}
 use Rattle.table.specs.Meaning.{rules_of}
@@ -49,11 +49,14 @@ are_names ls ps n utf8 text starts = is_table ls ps n && is_none (names_fault ut
 abbrev pub lists_right : (letters pairs : List ℕ) → (how_many : ℕ) → (utf8 : Bool) → (text starts places : List ℕ) → Bool
 lists_right ls ps n utf8 text starts places = is_table ls ps n && are_listed (lists (rules_by utf8 ls [] ps n) text starts places)
 
+-- the name of one number is before that of another, and both are names'
+unfoldable pub in_order_of : Rules → (text starts : List ℕ) → (one other : ℕ) → Bool
+in_order_of t text starts i j =
+    nat_lt (i + 1) (length starts) && (nat_lt (j + 1) (length starts) && name_before t (name_of text starts i) (name_of text starts j))
+
 -- 1 where the name behind a place of the list is after the one at it, else 0; numbers that are no name's count 0
 abbrev pub in_order_at : Lists → ℕ → ℕ
-in_order_at l k =
-    cond (nat_lt (slice_index_or l.places k 0 + 1) (length l.starts) && (nat_lt (slice_index_or l.places (k + 1) 0 + 1) (length l.starts)
-    && name_before l.rules (name_at l k) (name_at l (k + 1)))) 1 0
+in_order_at l k = cond (in_order_of l.rules l.text l.starts (slice_index_or l.places k 0) (slice_index_or l.places (k + 1) 0)) 1 0
 
 -- how many names are found for the question of a number
 abbrev pub found_at : Lists → (asks ask_starts : List ℕ) → ℕ → ℕ

@@ -7,7 +7,7 @@
 ghost use Rattle.std.specs.Prelude.{◌≡◌, ◌-◌, cond, [], is_none, length, ◌&&◌};
 ghost use Rattle.catalogue.specs.Checking.{lists_of};
 ghost use Rattle.catalogue.specs.Lists.{lists, names_fault};
-ghost use Rattle.timing.specs.Totals.{Listed, are_names, lists_right, found_at, in_order_at, key_at, numbered, room_after, total, written, TableOf};
+ghost use Rattle.timing.specs.Totals.{Listed, are_names, lists_right, found_at, in_order_at, in_order_of, key_at, numbered, room_after, total, written, TableOf};
 ghost use Rattle.table.specs.Meaning.{rules_of};
 ghost use Rattle.table.specs.Rules.{rules_by};
 
@@ -85,15 +85,25 @@ fn compares_of(table: &Table, names: &Names, places: &[u32]) -> u64
 {
     let mut ordered = 0u64;
     for place in 0..places.len().saturating_sub(1) {
-        let before = names.name(places[place]);
-        let behind = names.name(places[place + 1]);
-        if let (Some(before), Some(behind)) = (before, behind) {
-            if table.compare(before, behind).is_lt() {
-                ordered = ordered.wrapping_add(1);
-            }
+        if in_order(table, names, places[place], places[place + 1]) {
+            ordered = ordered.wrapping_add(1);
         }
     }
     ordered
+}
+
+// Whether the name of one number is before that of another, where both are names'.
+#[inline(always)]
+fn in_order(table: &Table, names: &Names, one: u32, other: u32) -> bool
+    ensures { result ≡ in_order_of (rules_of table.now) names.now.text.now names.now.starts.now one other }
+{
+    let Some(one) = names.name(one) else {
+        return false;
+    };
+    let Some(other) = names.name(other) else {
+        return false;
+    };
+    table.compare(one, other).is_lt()
 }
 
 // How many names all questions find in a list that is checked once. The questions lie one behind the other, as names do.

@@ -3,6 +3,7 @@ use crate::alphabet::{Alphabet, any_letter};
 use crate::dice::Dice;
 use crate::joined::Joined;
 use crate::plain::Plain;
+use crate::spread::Spread;
 use std::alloc::{AllocError, Global};
 
 mod names;
@@ -23,13 +24,14 @@ impl Drawn {
         let mut plain = Plain::new(heap, false)?;
         if dice.once_in(3) {
             for letter in 0..=255 {
-                plain.set_letter(letter, [0, 0, 1]);
+                plain.set_letter(letter, Spread::new(&[[0, 0, 1]]))?;
             }
         }
         let scale = Scale::new(dice);
         for letter in &alphabet.letters {
-            plain.set_letter(*letter, scale.weights(dice));
+            plain.set_letter(*letter, scale.one(dice))?;
         }
+        add_spreads(dice, &mut plain, &alphabet, scale)?;
         add_longs(dice, &mut plain, &alphabet, scale)?;
         add_pairs(dice, &mut plain, &alphabet, scale)?;
         alphabet.longs = plain.longs.to_vec(heap)?;
@@ -42,10 +44,11 @@ impl Drawn {
         let mut plain = Plain::new(heap, true)?;
         let scale = Scale::new(dice);
         for letter in &alphabet.letters {
-            plain.set_letter(*letter, scale.weights(dice));
+            plain.set_letter(*letter, scale.one(dice))?;
         }
+        add_spreads(dice, &mut plain, &alphabet, scale)?;
         if dice.once_in(10) {
-            fill_letters(dice, &mut plain);
+            fill_letters(dice, &mut plain)?;
         }
         add_longs(dice, &mut plain, &alphabet, scale)?;
         add_pairs(dice, &mut plain, &alphabet, scale)?;
@@ -54,16 +57,19 @@ impl Drawn {
     }
 }
 
-// So many letters one behind the other weigh something that 2,000 do in all.
-fn fill_letters(dice: &mut Dice, plain: &mut Plain) {
+// So many letters one behind the other weigh something that 2,000 do in all, a few of them as two.
+fn fill_letters(dice: &mut Dice, plain: &mut Plain) -> Result<(), AllocError> {
     let mut many = plain.letter_count();
     let first = dice.below(40000) as u32;
     for letter in first..first + 4000 {
-        if many < 2000 && plain.letter(letter) == [0; 3] {
-            plain.set_letter(letter, [1 + dice.below(3) as u16, 0, 1]);
+        if many < 2000 && !plain.spread(letter).counts() {
+            let triples = [[1 + dice.below(3) as u16, 0, 1], [0, 1, 0]];
+            let end = if dice.once_in(80) { 2 } else { 1 };
+            plain.set_letter(letter, Spread::new(triples.get(..end).unwrap_or(&[])))?;
             many += 1;
         }
     }
+    Ok(())
 }
 
 // A few letters, so that names meet, some dozens, or all bytes.
@@ -128,6 +134,33 @@ impl Scale {
         [self.weight(dice), self.weight(dice), self.weight(dice)]
     }
 
+    // These alone.
+    pub(crate) fn one(self, dice: &mut Dice) -> Spread {
+        Spread::new(&[self.weights(dice)])
+    }
+
+    // Two or three triples, half of them those of a letter.
+    pub(crate) fn several(self, dice: &mut Dice, plain: &Plain, alphabet: &Alphabet) -> Spread {
+        let mut triples = [[0; 3]; 3];
+        for triple in triples.iter_mut() {
+            *triple = if dice.once_in(2) {
+                plain.letter(alphabet.one(dice))
+            } else {
+                self.weights(dice)
+            };
+        }
+        Spread::new(triples.get(dice.below(2)..).unwrap_or(&[]))
+    }
+
+    // One triple, or several, and now and then too many.
+    pub(crate) fn any(self, dice: &mut Dice, plain: &Plain, alphabet: &Alphabet) -> Spread {
+        match dice.below(8) {
+            0 => Spread::excess(),
+            1..4 => self.several(dice, plain, alphabet),
+            _ => self.one(dice),
+        }
+    }
+
     fn weight(self, dice: &mut Dice) -> u16 {
         if dice.once_in(self.zeros) {
             return 0;
@@ -137,6 +170,25 @@ impl Scale {
         }
         (dice.below(self.most as usize) as u16).saturating_add(1)
     }
+}
+
+// Half of the tables have no letters that weigh as two or three, most others one or a few.
+fn add_spreads(
+    dice: &mut Dice,
+    plain: &mut Plain,
+    alphabet: &Alphabet,
+    scale: Scale,
+) -> Result<(), AllocError> {
+    let tries = match dice.below(8) {
+        0..4 => return Ok(()),
+        4..7 => 1 + dice.below(3),
+        _ => 1 + dice.below(40),
+    };
+    for _ in 0..tries {
+        let spread = scale.several(dice, plain, alphabet);
+        plain.set_letter(alphabet.one(dice), spread)?;
+    }
+    Ok(())
 }
 
 // Mostly a few runs of two to four letters, and now and then many, half of them with the run that is one letter shorter: of any

@@ -11,6 +11,7 @@ mod named;
 mod plain;
 mod reading;
 mod report;
+mod spread;
 mod trial;
 
 use report::Report;

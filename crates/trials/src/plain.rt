@@ -2,18 +2,22 @@
 ghost use Rattle.std.specs.Prelude.{◌≡◌, ◌/◌, length};
 
 use crate::joined::Joined;
-use crate::reading;
+use crate::spread::{Entry, Spread};
 use std::alloc::{AllocError, Global};
 use std::fmt;
-use table::{Letter, Pair, Refusal, Weights};
+use table::{Letter, Pair, Weights};
+
+mod refusals;
 
 // The numbers of a table, as they are lent; they need not be those of one.
 #[derive(Drop)]
 pub(crate) struct Plain {
     // Whether names are in UTF-8; else each byte is a letter.
     pub(crate) utf8: bool,
-    // Three weights for each letter, of 256 or of 65,536.
+    // Three weights for each letter, of 256 or of 65,536; 0 for those that weigh as two or three.
     pub(crate) letters: Vec<u16>,
+    // These, in the order in which they came.
+    pub(crate) spreads: Vec<Entry>,
     pub(crate) pairs: Vec<u16>,
     pub(crate) how_many: u64,
     // Runs of three and four letters, in the order in which they came.
@@ -27,6 +31,7 @@ impl Plain {
         Ok(Plain {
             utf8,
             letters: vec![in heap; 0; numbers]?,
+            spreads: Vec::new(heap),
             pairs: Vec::new(heap),
             how_many: 0,
             longs: Vec::new(heap),
@@ -37,18 +42,33 @@ impl Plain {
         Ok(Plain {
             utf8: self.utf8,
             letters: self.letters.to_vec(heap)?,
+            spreads: self.spreads.to_vec(heap)?,
             pairs: self.pairs.to_vec(heap)?,
             how_many: self.how_many,
             longs: self.longs.to_vec(heap)?,
         })
     }
 
-    pub(crate) fn set_letter(&mut self, letter: u32, weights: [u16; 3]) {
-        for (level, weight) in weights.iter().enumerate() {
+    // A letter weighs so, whatever it weighed; nothing where none of its triples counts.
+    pub(crate) fn set_letter(&mut self, letter: u32, spread: Spread) -> Result<(), AllocError> {
+        if let Some(place) = self.spreads.iter().position(|entry| entry.letter == letter) {
+            if place < self.spreads.len() {
+                self.spreads.remove(place);
+            }
+        }
+        let itself = match spread.triples() {
+            [itself] => *itself,
+            _ => [0; 3],
+        };
+        for (level, weight) in itself.iter().enumerate() {
             if let Some(number) = self.letters.get_mut(3 * letter as usize + level) {
                 *number = *weight;
             }
         }
+        if spread.triples().len() > 1 && spread.counts() {
+            self.spreads.push(Entry { letter, spread })?;
+        }
+        Ok(())
     }
 
     // A run more, of two letters or of more.
@@ -93,7 +113,7 @@ impl Plain {
 
     // How many letters weigh something.
     pub(crate) fn letter_count(&self) -> usize {
-        let mut many = 0usize;
+        let mut many = self.spreads.len();
         for weights in self.letters.chunks(3) {
             if weights.iter().any(|weight| *weight != 0) {
                 many = many.saturating_add(1);
@@ -112,12 +132,22 @@ impl Plain {
         self.pair_count().saturating_add(self.longs.len())
     }
 
-    // Whether it may be lent as numbers: they are bytes, and no longer runs.
+    // Whether it may be lent as numbers: letters are bytes that weigh as one, and there are no longer runs.
     pub(crate) fn is_numbers(&self) -> bool {
-        !self.utf8 && self.longs.is_empty()
+        !self.utf8 && self.longs.is_empty() && self.spreads.is_empty()
     }
 
-    // What a letter weighs.
+    // All that a letter weighs.
+    pub(crate) fn spread(&self, letter: u32) -> Spread {
+        for entry in &self.spreads {
+            if entry.letter == letter {
+                return entry.spread;
+            }
+        }
+        Spread::new(&[self.letter(letter)])
+    }
+
+    // What a letter weighs itself; nothing where it weighs as two or three.
     pub(crate) fn letter(&self, letter: u32) -> [u16; 3] {
         let at = 3 * letter as usize;
         match self.letters.get(at..at + 3) {
@@ -163,7 +193,7 @@ impl Plain {
         }
     }
 
-    // The letters that a table lists: those below 256, and others that weigh something.
+    // The letters that a table lists: those below 256, and others that weigh something themselves.
     pub(crate) fn listed(&self, heap: Global) -> Result<Vec<Letter>, AllocError> {
         let mut letters = Vec::new(heap);
         for (letter, numbers) in (0..u32::MAX).zip(self.letters.chunks_exact(3)) {
@@ -180,6 +210,19 @@ impl Plain {
         Ok(letters)
     }
 
+    // Entries of which a table is made: those of the letters that it lists, and of those that weigh as two or three.
+    pub(crate) fn entries(&self, heap: Global) -> Result<Vec<Entry>, AllocError> {
+        let mut entries = Vec::new(heap);
+        for listed in &self.listed(heap)? {
+            entries.push(Entry {
+                letter: listed.letter,
+                spread: Spread::new(&[self.letter(listed.letter)]),
+            })?;
+        }
+        entries.extend_from_slice(&self.spreads)?;
+        Ok(entries)
+    }
+
     // The runs: the pairs, as they lie, and behind them the longer ones.
     pub(crate) fn listed_runs(&self, heap: Global) -> Result<Vec<Joined>, AllocError> {
         let mut runs = Vec::new(heap);
@@ -191,67 +234,6 @@ impl Plain {
         }
         runs.extend_from_slice(&self.longs)?;
         Ok(runs)
-    }
-
-    // Why a letter can't be one more, where so many weigh something.
-    pub(crate) fn letter_refusal(
-        &self,
-        many: usize,
-        letter: u32,
-        weights: [u16; 3],
-    ) -> Option<Refusal> {
-        if weights == [0; 3] {
-            None
-        } else if many >= 2000 {
-            Some(Refusal::TooManyLetters)
-        } else if !reading::is_letter(self.utf8, letter) {
-            Some(Refusal::NoLetter(many))
-        } else if self.letter(letter) != [0; 3] {
-            Some(Refusal::LetterTwice(many))
-        } else {
-            None
-        }
-    }
-
-    // Why a run can't be one more.
-    pub(crate) fn run_refusal(&self, letters: &[u32]) -> Option<Refusal> {
-        let place = self.run_count();
-        let last = if self.utf8 { 65535 } else { 255 };
-        if place >= 200 {
-            Some(Refusal::TooMany)
-        } else if letters.iter().any(|letter| *letter > last) {
-            Some(Refusal::Foreign(place))
-        } else if self.run(letters).is_some() {
-            Some(Refusal::Twice(place))
-        } else {
-            None
-        }
-    }
-
-    // What is wrong with the numbers as those of a table.
-    pub(crate) fn refusal(&self) -> Option<Refusal> {
-        if self.letters.len() != 768 {
-            return Some(Refusal::Letters);
-        }
-        if self.how_many.checked_mul(5) != Some(self.pairs.len() as u64) {
-            return Some(Refusal::Shape);
-        }
-        if self.how_many > 200 {
-            return Some(Refusal::TooMany);
-        }
-        for (place, pair) in self.pairs.chunks_exact(5).enumerate() {
-            if pair.iter().take(2).any(|letter| *letter > 255) {
-                return Some(Refusal::Foreign(place));
-            }
-        }
-        for (place, pair) in self.pairs.chunks_exact(5).enumerate() {
-            for earlier in self.pairs.chunks_exact(5).take(place) {
-                if earlier.get(..2) == pair.get(..2) {
-                    return Some(Refusal::Twice(place));
-                }
-            }
-        }
-        None
     }
 }
 
@@ -272,6 +254,9 @@ impl fmt::Display for Plain {
         write!(f, "; {how_many} pairs {pairs:?}")?;
         for long in &self.longs {
             write!(f, ", {long}")?;
+        }
+        for entry in &self.spreads {
+            write!(f, ", {entry}")?;
         }
         Ok(())
     }

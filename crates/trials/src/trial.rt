@@ -5,6 +5,7 @@ use crate::drawn::Drawn;
 use crate::joined::lent;
 use crate::plain::Plain;
 use crate::report::Report;
+use crate::spread::entered;
 use std::alloc::{AllocError, Global};
 use table::{AddError, Table, TableBuf};
 
@@ -14,13 +15,17 @@ mod damaging;
 mod finding;
 mod growing;
 mod keying;
+mod lettering;
+mod ligature;
 mod listing;
 mod looking;
 mod recording;
 mod records;
+mod renewed;
 mod renewing;
 mod spoiling;
 mod widening;
+mod written;
 
 // A table in plain numbers and as the library has it, and the letters that names are mostly made of.
 #[derive(Clone, Copy)]
@@ -108,18 +113,23 @@ fn run_under(
     comparing::run(heap, dice, both, report)?;
     listing::run(heap, dice, both, report)?;
     growing::run(heap, dice, both, report)?;
-    renewing::run(heap, dice, both, report)
+    renewing::run(heap, dice, both, report)?;
+    written::run(heap, dice, both, report)
 }
 
 // The library's table of plain numbers, all at once.
 fn made(heap: Global, plain: &Plain) -> Result<TableBuf, AddError> {
     if plain.utf8 {
         let runs = plain.listed_runs(heap)?;
-        return TableBuf::of(&plain.listed(heap)?, &lent(heap, &runs)?, heap);
+        let entries = plain.entries(heap)?;
+        return TableBuf::of(&entered(heap, &entries)?, &lent(heap, &runs)?, heap);
     }
     let mut own = Table::check(&plain.letters, &plain.pairs, plain.how_many)?.to_buf(heap)?;
     for long in plain.longs.iter().filter_map(|run| run.long()) {
         own.add_long(long)?;
+    }
+    for entry in &plain.spreads {
+        own.add_letter(entry.lent())?;
     }
     Ok(own)
 }

@@ -1,7 +1,7 @@
 // Filling a catalogue.
 ghost use Rattle.std.specs.Prelude.{[], ◌≡◌, ◌+◌, ◌^◌, ◌<◌, IfOk, None, false, length};
-ghost use Rattle.table.specs.Buffer.{buffer_longs, buffer_pairs, buffer_rules};
-ghost use Rattle.table.specs.Meaning.{longs_of, pairs_of, rules_of};
+ghost use Rattle.table.specs.Buffer.{buffer_expansions, buffer_longs, buffer_pairs, buffer_rules};
+ghost use Rattle.table.specs.Meaning.{expansions_of, longs_of, pairs_of, rules_of};
 ghost use Rattle.keys.specs.Refusals.{name_refusal};
 
 use crate::buffer::CatalogueBuf;
@@ -9,7 +9,7 @@ use crate::fault::{ListFault, NotTaken, PushError};
 use crate::names::Names;
 use keys::NameRefusal;
 use std::alloc::{AllocError, Global};
-use table::{AddError, Letter, Long, Pair, Table, TableBuf};
+use table::{AddError, LetterEntry, Long, Pair, Table, TableBuf};
 
 impl CatalogueBuf {
     ghost use Rattle.catalogue.specs.Filling.{Appended, Empty, LetterPut, LongPut, PairPut, Pushed, TablePut};
@@ -68,6 +68,7 @@ impl CatalogueBuf {
         ensures rules { rules_of result ≡ buffer_rules self.now.table }
         ensures pairs { pairs_of result ≡ buffer_pairs self.now.table }
         ensures longs { longs_of result ≡ buffer_longs self.now.table }
+        ensures expansions { expansions_of result ≡ buffer_expansions self.now.table }
     {
         self.table.table()
     }
@@ -88,7 +89,7 @@ impl CatalogueBuf {
 
     // One letter more. One that is turned away changes nothing; where memory is wanting the list is kept too.
     #[tactic(auto, using(crate::proofs::Listing::none_listed, crate::proofs::Listing::not_whole))]
-    pub fn add_letter(&mut self, entry: Letter) -> Result<(), AddError>
+    pub fn add_letter(&mut self, entry: LetterEntry) -> Result<(), AddError>
         ensures { LetterPut self.old entry result self.new }
     {
         self.table.add_letter(entry)?;

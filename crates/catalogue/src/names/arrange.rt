@@ -82,7 +82,7 @@ impl Names<'_> {
         let mut numbers = Vec::with_capacity(heap, most.saturating_add(2 * self.count()))?;
         let mut bounds = Vec::with_capacity(heap, self.count() + 1)?;
         bounds.push(0)?;
-        let mut room = [0; 3002];
+        let mut room = [0; 9002];
         for number in 0..self.count() {
             push_key(table, self.at(number), &mut room, &mut numbers)?;
             bounds.push(numbers.len())?;
@@ -96,7 +96,7 @@ impl Names<'_> {
 fn push_key(
     table: &Table,
     name: &[u8],
-    room: &mut [u32; 3002],
+    room: &mut [u32; 9002],
     numbers: &mut Vec<u32>,
 ) -> Result<(), AllocError>
     ensures { IfOk result (λ x. numbers.new.items ≡ numbers.old.items ++ key (rules_of table.now) name.now) }

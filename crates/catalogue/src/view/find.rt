@@ -2,7 +2,7 @@
 ghost use Rattle.std.specs.Prelude.{◌≡◌, ◌<◌, ◌≤◌, length, take};
 ghost use Rattle.catalogue.specs.Checking.{lists_of};
 ghost use Rattle.catalogue.specs.Cutting.{Cuts, along_at};
-ghost use Rattle.catalogue.specs.Finding.{Found, FoundAt, looked_through, may_ask, standing_at};
+ghost use Rattle.catalogue.specs.Finding.{BothOrNeither, Found, FoundAt, looked_through, may_ask, standing_at};
 ghost use Rattle.order.specs.Names.{along};
 
 use crate::view::Catalogue;
@@ -16,6 +16,7 @@ impl<'a> Catalogue<'a> {
     pub fn find(&self, ask: &[u8]) -> &'a [u32]
         ensures part { Found (may_ask (lists_of self.now) ask.now) (lists_of self.now) ask.now result.now }
         ensures looked_through { result.now ≡ looked_through (may_ask (lists_of self.now) ask.now) (lists_of self.now) ask.now }
+        ensures written_out { BothOrNeither (lists_of self.now) result.now }
     {
         let range = self.range(ask);
         &self.places[range.start..range.end]

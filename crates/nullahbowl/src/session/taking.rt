@@ -16,7 +16,7 @@ use crate::session::Session;
 use catalogue::{CatalogueBuf, NamesFound};
 use keys::{NameRefusal, SortKeys};
 use std::alloc::{AllocError, Global};
-use table::{Letter, Long, LongRun, Pair, Refusal, Table, TableBuf};
+use table::{LetterEntry, Long, LongRun, Pair, Refusal, Table, TableBuf};
 use texts::{Command, Entry, Fault, Line, without_return};
 
 // How many numbers a letter may have.
@@ -108,7 +108,7 @@ impl Session {
     }
 
     // One letter more. What is turned away changes nothing.
-    fn weigh(&mut self, heap: Global, entry: Letter) -> Result<(), TakeError>
+    fn weigh(&mut self, heap: Global, entry: LetterEntry) -> Result<(), TakeError>
         ensures { Weighed self.old entry result self.new }
     {
         if self.own {

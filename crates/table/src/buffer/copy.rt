@@ -18,6 +18,7 @@ impl Table<'_> {
             others: self.others.to_vec(heap)?,
             pairs: self.pairs.numbers().to_vec(heap)?,
             longs: self.longs.to_vec(heap)?,
+            expansions: self.expansions.to_vec(heap)?,
             utf8: self.utf8,
         })
     }

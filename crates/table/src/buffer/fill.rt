@@ -1,10 +1,12 @@
 // Filling a table and lending it.
 ghost use Rattle.std.specs.Prelude.{◌≡◌, [], ◌∷◌, IfOk, None, false, length, true};
-ghost use Rattle.table.specs.Buffer.{Added, EntryIn, LetterIn, LongIn, PairIn, Written, buffer_letters, buffer_longs, buffer_pairs, buffer_rules, buffer_runs, is_letter_of, letter_refusal, long_refusal, pair_refusal};
-ghost use Rattle.table.specs.Meaning.{longs_of, pairs_of, rules_of};
+ghost use Rattle.table.specs.Buffer.{Added, EntryIn, LetterIn, LongIn, PairIn, Written, buffer_expansions, buffer_letters, buffer_longs, buffer_pairs, buffer_rules, buffer_runs, excess_refusal, letter_refusal, long_refusal, pair_refusal};
+ghost use Rattle.pieces.specs.declared.piece.Triples.TheVariants.{One, Several};
+ghost use Rattle.table.specs.Entries.{is_letter_of};
+ghost use Rattle.table.specs.Meaning.{expansions_of, longs_of, pairs_of, rules_of};
 ghost use Rattle.table.specs.Refusals.{verdict};
-ghost use Rattle.table.specs.Rules.{letter_weighs, no_rules};
-ghost use Rattle.pieces.specs.Runs.{counts};
+ghost use Rattle.table.specs.Rules.{is_weighed, no_rules};
+ghost use Rattle.pieces.specs.Runs.{counts, counts_some};
 
 use crate::buffer::TableBuf;
 use crate::fault::{AddError, Refusal};
@@ -13,7 +15,9 @@ use crate::marks::begins_of;
 use crate::others::letter_weights;
 use crate::pairs::Pairs;
 use crate::view::Table;
-use pieces::{Letter, Long, Pair, Weights, find_long, place_for};
+use pieces::{
+    Expansion, Letter, LetterEntry, Long, Pair, Triples, Weights, find_long, find_ranked, place_for,
+};
 use std::alloc::{AllocError, Global};
 use utf8::is_letter;
 
@@ -41,6 +45,7 @@ impl TableBuf {
             others: Vec::new(heap),
             pairs: Vec::new(heap),
             longs: Vec::new(heap),
+            expansions: Vec::new(heap),
             utf8,
         })
     }
@@ -53,7 +58,7 @@ impl TableBuf {
     }
 
     // One letter more. An entry that weighs nothing is as if it weren't there.
-    pub fn add_letter(&mut self, entry: Letter) -> Result<(), AddError>
+    pub fn add_letter(&mut self, entry: LetterEntry) -> Result<(), AddError>
         ensures { Added (letter_refusal (buffer_rules self.old) (buffer_letters self.old) entry) (EntryIn self.old entry) self.old result self.new }
     {
         self.allows_letter(entry)?;
@@ -63,12 +68,40 @@ impl TableBuf {
         Ok(())
     }
 
-    // The weights of a letter that had none are written.
-    pub(crate) fn write_letter(&mut self, entry: Letter) -> Result<(), AllocError>
+    // What a letter weighs that weighed nothing is written.
+    pub(crate) fn write_letter(&mut self, entry: LetterEntry) -> Result<(), AllocError>
+        requires counts { counts_some entry.weights ≡ true }
+        requires letter { is_letter_of self.old.utf8 entry.letter ≡ true }
+        requires free { is_weighed (buffer_rules self.old) entry.letter ≡ false }
+        requires fits { excess_refusal 0 entry.weights ≡ None }
+        ensures { Written (LetterIn self.old entry) self.old result self.new }
+    {
+        let letter = entry.letter;
+        match entry.weights {
+            Triples::One(weights) => self.write_one(Letter { letter, weights }),
+            Triples::Several(weights) => self.write_expansion(Expansion { letter, weights }),
+            Triples::Excess => Ok(()),
+        }
+    }
+
+    // What a letter expands to that weighed nothing is written at its place among the others.
+    fn write_expansion(&mut self, entry: Expansion) -> Result<(), AllocError>
+        requires counts { counts_some (Several entry.weights) ≡ true }
+        requires letter { is_letter_of self.old.utf8 entry.letter ≡ true }
+        requires free { is_weighed (buffer_rules self.old) entry.letter ≡ false }
+        ensures { Written (LetterIn self.old (record { letter = entry.letter; weights = Several entry.weights })) self.old result self.new }
+    {
+        let place = place_for(self.expansions.as_slice(), entry.letter as u64);
+        self.expansions.insert(place, entry)?;
+        Ok(())
+    }
+
+    // The weights of a letter that weighed nothing are written.
+    fn write_one(&mut self, entry: Letter) -> Result<(), AllocError>
         requires counts { counts entry.weights ≡ true }
         requires letter { is_letter_of self.old.utf8 entry.letter ≡ true }
-        requires free { counts (letter_weighs self.old.letters.items self.old.others.items entry.letter) ≡ false }
-        ensures { Written (LetterIn self.old entry) self.old result self.new }
+        requires free { is_weighed (buffer_rules self.old) entry.letter ≡ false }
+        ensures { Written (LetterIn self.old (record { letter = entry.letter; weights = One entry.weights })) self.old result self.new }
     {
         if entry.letter < 256 {
             set_weights(&mut self.letters, 3 * entry.letter as usize, entry.weights);
@@ -80,7 +113,7 @@ impl TableBuf {
     }
 
     // Whether one letter more would be taken, if there is memory; else why not.
-    pub fn allows_letter(&self, entry: Letter) -> Result<(), Refusal>
+    pub fn allows_letter(&self, entry: LetterEntry) -> Result<(), Refusal>
         ensures { result ≡ verdict (letter_refusal (buffer_rules self.now) (buffer_letters self.now) entry) }
     {
         if !entry.weights.counts() {
@@ -93,10 +126,10 @@ impl TableBuf {
         if !is_letter_of(self.utf8, entry.letter) {
             return Err(Refusal::NoLetter(many));
         }
-        if self.letter(entry.letter).counts() {
+        if self.is_weighed(entry.letter) {
             return Err(Refusal::LetterTwice(many));
         }
-        Ok(())
+        check_triples(entry.weights, many)
     }
 
     // How many letters weigh something.
@@ -109,10 +142,18 @@ impl TableBuf {
                 many += 1;
             }
         }
-        many + self.others.len()
+        many + self.others.as_slice().len() + self.expansions.as_slice().len()
     }
 
-    // What a letter weighs.
+    // Whether a letter weighs something.
+    fn is_weighed(&self, letter: u32) -> bool
+        ensures { result ≡ is_weighed (buffer_rules self.now) letter }
+    {
+        self.letter(letter).counts()
+            || find_ranked(self.expansions.as_slice(), letter as u64).is_some()
+    }
+
+    // What a letter weighs itself.
     #[tactic(auto, unfolding(crate::specs::Rules::weighs_in))]
     fn letter(&self, letter: u32) -> Weights
         ensures { result ≡ (buffer_rules self.now).weighs (letter ∷ []) }
@@ -203,6 +244,7 @@ impl TableBuf {
         ensures rules { rules_of result ≡ buffer_rules self.now }
         ensures pairs { pairs_of result ≡ buffer_pairs self.now }
         ensures longs { longs_of result ≡ buffer_longs self.now }
+        ensures expansions { expansions_of result ≡ buffer_expansions self.now }
     {
         let mut pairs = Pairs::new(self.pairs.as_slice());
         pairs.chain().unwrap();
@@ -213,9 +255,20 @@ impl TableBuf {
             others: self.others.as_slice(),
             pairs,
             longs,
+            expansions: self.expansions.as_slice(),
             begins,
             utf8: self.utf8,
         }
+    }
+}
+
+// Whether a letter weighs as three at the most: the refusal of an entry at this place, where not.
+pub(crate) fn check_triples(weights: Triples, place: usize) -> Result<(), Refusal>
+    ensures { result ≡ verdict (excess_refusal place weights) }
+{
+    match weights {
+        Triples::Excess => Err(Refusal::TooManyTriples(place)),
+        Triples::One(_) | Triples::Several(_) => Ok(()),
     }
 }
 

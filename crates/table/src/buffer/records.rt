@@ -1,27 +1,29 @@
 // Lent records as a table of names in UTF-8: they are looked through before any memory is asked for.
 ghost use Rattle.std.specs.Prelude.{◌≡◌, ◌≤◌, [], IfOk, None, length, true};
 ghost use Rattle.table.specs.Buffer.{buffer_rules, buffer_runs};
-ghost use Rattle.table.specs.Records.{IsFree, MadeOf, RunIn, Says, first_refusal, foreign_record, is_told, length_record, letter_record, letter_told, letters_refusal, many_weighing, runs_refusal, twice_record};
+ghost use Rattle.table.specs.Records.{IsFree, MadeOf, RunIn, Says, excess_record, first_refusal, foreign_record, is_told, length_record, letter_record, letter_told, letters_refusal, many_weighing, runs_refusal, twice_record};
 ghost use Rattle.table.specs.Refusals.{unknown_run, verdict};
-ghost use Rattle.pieces.specs.Runs.{counts};
+ghost use Rattle.pieces.specs.Runs.{counts_some};
 
 use crate::buffer::TableBuf;
+use crate::buffer::fill::check_triples;
 use crate::fault::{AddError, Refusal};
 use crate::view::Table;
-use pieces::{Letter, Long, LongRun, Pair, Run};
+use pieces::{LetterEntry, Long, LongRun, Pair, Run};
 use std::alloc::{AllocError, Global};
 use utf8::is_letter;
 
 impl TableBuf {
     // Letters with what they weigh, in any order, and runs, as a table of names in UTF-8. An entry that weighs nothing is as
-    // if it weren't there. Runs are looked at before letters, but for how many letters each has; and places are counted over all
-    // records.
-    pub fn of(letters: &[Letter], runs: &[Run<'_>], heap: Global) -> Result<TableBuf, AddError>
+    // if it weren't there. Runs are looked at before letters, but for how many letters each has; that a letter weighs as more than
+    // three is told last; and places are counted over all records.
+    pub fn of(letters: &[LetterEntry], runs: &[Run<'_>], heap: Global) -> Result<TableBuf, AddError>
         ensures { MadeOf letters.now runs.now result }
     {
         check_runs(runs)?;
         check_letters(letters)?;
         all_fit(runs)?;
+        none_in_excess(letters)?;
         let mut table = TableBuf::in_utf8(heap)?;
         table.write_runs(runs)?;
         table.write_letters(runs, letters)?;
@@ -65,9 +67,10 @@ impl TableBuf {
     }
 
     // Letters of which none is refused are written into a table of runs.
-    fn write_letters(&mut self, runs: &[Run<'_>], letters: &[Letter]) -> Result<(), AllocError>
+    fn write_letters(&mut self, runs: &[Run<'_>], letters: &[LetterEntry]) -> Result<(), AllocError>
         requires blank { Says [] runs.now self.old }
         requires letters { letters_refusal letters.now ≡ None }
+        requires fit { first_refusal excess_record [] letters.now ≡ None }
         ensures { IfOk result (λ x. Says letters.now runs.now self.new) }
     {
         for entry in letters {
@@ -140,8 +143,18 @@ fn all_fit(runs: &[Run<'_>]) -> Result<(), Refusal>
     Ok(())
 }
 
-// Whether all letters are taken.
-fn check_letters(letters: &[Letter]) -> Result<(), Refusal>
+// Whether no letter weighs as more than three.
+fn none_in_excess(letters: &[LetterEntry]) -> Result<(), Refusal>
+    ensures { result ≡ verdict (first_refusal excess_record [] letters.now) }
+{
+    for (place, entry) in letters.iter().enumerate() {
+        check_triples(entry.weights, place)?;
+    }
+    Ok(())
+}
+
+// Whether all letters are taken, but for how many triples each has.
+fn check_letters(letters: &[LetterEntry]) -> Result<(), Refusal>
     ensures { result ≡ verdict (letters_refusal letters.now) }
 {
     if many_weighing(letters) > Table::MAX_LETTERS {
@@ -154,7 +167,7 @@ fn check_letters(letters: &[Letter]) -> Result<(), Refusal>
 }
 
 // Whether an entry is taken behind these.
-fn check_entry(front: &[Letter], entry: Letter) -> Result<(), Refusal>
+fn check_entry(front: &[LetterEntry], entry: LetterEntry) -> Result<(), Refusal>
     ensures { result ≡ verdict (letter_record front.now entry) }
 {
     if !entry.weights.counts() {
@@ -170,7 +183,7 @@ fn check_entry(front: &[Letter], entry: Letter) -> Result<(), Refusal>
 }
 
 // How many entries weigh something.
-fn many_weighing(letters: &[Letter]) -> usize
+fn many_weighing(letters: &[LetterEntry]) -> usize
     ensures { result ≡ many_weighing letters.now }
 {
     let mut many = 0;
@@ -183,8 +196,8 @@ fn many_weighing(letters: &[Letter]) -> usize
 }
 
 // Whether one of the entries says that this letter weighs something.
-fn is_weighed(entries: &[Letter], letter: u32) -> bool
-    ensures { result ≡ counts (letter_told entries.now letter) }
+fn is_weighed(entries: &[LetterEntry], letter: u32) -> bool
+    ensures { result ≡ counts_some (letter_told entries.now letter) }
 {
     entries
         .iter()

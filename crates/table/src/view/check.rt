@@ -11,8 +11,8 @@ use crate::view::Table;
 
 impl<'a> Table<'a> {
     // Lent numbers as a table of bytes: three weights for each of the 256 letters, and five numbers for each of `how_many`
-    // pairs, two letters and their three weights. It has no longer runs. The numbers are taken one by one, and not as a
-    // struct, as `make_key` hands them on from callers who know tables by numbers alone.
+    // pairs, two letters and their three weights. It has no longer runs, and no letter expands. The numbers are taken one by one,
+    // and not as a struct, as `make_key` hands them on from callers who know tables by numbers alone.
     pub fn check(letters: &'a [u16], pairs: &'a [u16], how_many: u64) -> Result<Table<'a>, Refusal>
         ensures { Checked letters.now pairs.now how_many result }
     {
@@ -28,6 +28,7 @@ impl<'a> Table<'a> {
             others: &[],
             pairs,
             longs: &[],
+            expansions: &[],
             begins,
             utf8: false,
         })

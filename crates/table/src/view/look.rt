@@ -1,14 +1,16 @@
 // Looking up what letters weigh.
 ghost use Rattle.std.specs.Prelude.{◌≡◌, ◌^◌, ◌<◌, ◌≤◌, false, [], ◌∷◌, length};
 ghost use Rattle.std.specs.List.{slice_get};
-ghost use Rattle.table.specs.Meaning.{letters_of, longs_of, pairs_of, rules_of, some_begins};
-ghost use Rattle.table.specs.Rules.{BeginsNone, contraction};
-ghost use Rattle.pieces.specs.Runs.{long_letters};
+ghost use Rattle.table.specs.Meaning.{expansions_of, letters_of, longs_of, pairs_of, rules_of, some_begins};
+ghost use Rattle.table.specs.Rules.{BeginsNone, contraction, letter_triples};
+ghost use Rattle.pieces.specs.Runs.{expanded_if, long_letters};
 
 use crate::layout::weights_at;
 use crate::others::letter_weights;
 use crate::view::Table;
-use pieces::{Letter, Long, LongRun, Pair, Weights, find_long};
+use pieces::{
+    Expanded, Expansion, Letter, Long, LongRun, Pair, Triples, Weights, find_long, find_ranked,
+};
 
 impl Table<'_> {
     // How many letters bytes are.
@@ -27,12 +29,32 @@ impl Table<'_> {
         self.utf8
     }
 
-    // What a letter weighs.
+    // What a letter weighs itself: nothing where it weighs as two or three.
     #[tactic(auto, unfolding(crate::specs::Rules::weighs_in))]
     pub fn letter(&self, letter: u32) -> Weights
         ensures { result ≡ (rules_of self.now).weighs (letter ∷ []) }
     {
         letter_weights(self.letters, self.others, letter)
+    }
+
+    // What a letter expands to, where it weighs as two or three.
+    pub fn expansion(&self, letter: u32) -> Option<Expanded>
+        ensures { expanded_if result ≡ (rules_of self.now).expands (letter ∷ []) }
+    {
+        match find_ranked(self.expansions, letter as u64) {
+            Some(expansion) => Some(expansion.weights),
+            None => None,
+        }
+    }
+
+    // All that a letter weighs, as it is entered.
+    pub fn triples(&self, letter: u32) -> Triples
+        ensures { result ≡ letter_triples (rules_of self.now) letter }
+    {
+        match self.expansion(letter) {
+            Some(expanded) => Triples::Several(expanded),
+            None => Triples::One(self.letter(letter)),
+        }
     }
 
     // What two letters weigh together, where they are one. Two letters, and not a struct of them: a name has them one by one.
@@ -59,7 +81,7 @@ impl Table<'_> {
         self.begins[(letter % 256) as usize]
     }
 
-    // How many letters are listed: those below 256, and those that have an entry.
+    // How many letters are listed with weights of their own: those below 256, and those that have an entry.
     pub fn letter_count(&self) -> usize
         ensures count { result ≡ length (letters_of self.now) }
         ensures few { result < 2 ^ 63 }
@@ -67,7 +89,7 @@ impl Table<'_> {
         Self::LETTERS + self.others.len()
     }
 
-    // The letter at a place of the list, counted from 0. A letter that is not listed weighs nothing.
+    // The letter at a place of the list, counted from 0. A letter that is not listed weighs nothing itself.
     pub fn letter_at(&self, place: usize) -> Option<Letter>
         ensures { result ≡ slice_get (letters_of self.now) place }
     {
@@ -82,6 +104,21 @@ impl Table<'_> {
             return None;
         }
         Some(self.others[other])
+    }
+
+    // How many letters weigh as two or three.
+    pub fn expansion_count(&self) -> usize
+        ensures count { result ≡ length (expansions_of self.now) }
+        ensures few { result < 2 ^ 62 }
+    {
+        self.expansions.len()
+    }
+
+    // The one at a place, counted from 0.
+    pub fn expansion_at(&self, place: usize) -> Option<Expansion>
+        ensures { result ≡ slice_get (expansions_of self.now) place }
+    {
+        self.expansions.get(place).copied()
     }
 
     // How many pairs there are.

@@ -1,11 +1,12 @@
-// What a newer table keeps, by looking at each two of the old pieces.
+// What a newer table keeps, by looking at each two triples of weights of old pieces.
 use crate::joined::Joined;
 use crate::plain::Plain;
+use crate::spread::Spread;
 use keys::Level;
 use order::{Change, Piece};
 use std::alloc::{AllocError, Global};
 
-// A piece of old letters, and what it weighs before and now.
+// A triple of a piece of old letters, before and now.
 #[derive(Clone, Copy)]
 struct Shift {
     before: [u16; 3],
@@ -23,25 +24,31 @@ fn old_runs(heap: Global, plain: &Plain, old: &[bool]) -> Result<Vec<Joined>, Al
     Ok(runs)
 }
 
-// The old pieces, or none where one of them is one in only one of the tables.
+// What all old pieces weigh, or none where one of them is one in only one of the tables, or has another number of triples.
 fn weighed(
     heap: Global,
     older: &Plain,
     newer: &Plain,
     old: &[bool],
 ) -> Result<Option<Vec<Shift>>, AllocError> {
-    let mut pieces = Vec::new(heap);
+    let mut shifts = Vec::new(heap);
     for (letter, mark) in (0..u32::MAX).zip(old) {
         if *mark {
-            pieces.push(Shift {
-                before: older.letter(letter),
-                now: newer.letter(letter),
-            })?;
+            let (before, now) = (older.spread(letter), newer.spread(letter));
+            if before.triples().len() != now.triples().len() {
+                return Ok(None);
+            }
+            for (before, now) in before.triples().iter().zip(now.triples()) {
+                shifts.push(Shift {
+                    before: *before,
+                    now: *now,
+                })?;
+            }
         }
     }
     for run in &old_runs(heap, older, old)? {
         match newer.run(run.letters()) {
-            Some(now) => pieces.push(Shift {
+            Some(now) => shifts.push(Shift {
                 before: run.weights,
                 now,
             })?,
@@ -53,17 +60,17 @@ fn weighed(
             return Ok(None);
         }
     }
-    Ok(Some(pieces))
+    Ok(Some(shifts))
 }
 
-// Whether two pieces stand to each other as before, and weigh 0 where they did.
+// Whether two triples stand to each other as before, and weigh 0 where they did.
 fn stand_as_before(one: Shift, other: Shift) -> bool {
     let levels = one.before.iter().zip(&one.now);
     let others = other.before.iter().zip(&other.now);
     levels.zip(others).all(|((a, b), (c, d))| a.cmp(c) == b.cmp(d) && (*a == 0) == (*b == 0))
 }
 
-// Whether the tests of a newer table hold, by each two of the old pieces.
+// Whether the tests of a newer table hold, by each two triples of old pieces.
 pub(crate) fn keeps(
     heap: Global,
     older: &Plain,
@@ -73,11 +80,11 @@ pub(crate) fn keeps(
     if older.utf8 != newer.utf8 {
         return Ok(false);
     }
-    let Some(pieces) = weighed(heap, older, newer, old)? else {
+    let Some(shifts) = weighed(heap, older, newer, old)? else {
         return Ok(false);
     };
-    for one in &pieces {
-        for other in &pieces {
+    for one in &shifts {
+        for other in &shifts {
             if !stand_as_before(*one, *other) {
                 return Ok(false);
             }
@@ -86,10 +93,10 @@ pub(crate) fn keeps(
     Ok(true)
 }
 
-// What a piece weighs on a level; nothing where it is letters that are not one, or not all its letters are old.
-fn weight(plain: &Plain, old: &[bool], piece: Piece, level: Level) -> Option<u16> {
-    let [primary, secondary, tertiary] = match piece {
-        Piece::Letter(letter) => is_old(old, letter).then_some(plain.letter(letter)),
+// What a piece weighs; nothing where it is letters that are not one, or not all its letters are old.
+fn weight(plain: &Plain, old: &[bool], piece: Piece) -> Option<Spread> {
+    let weights = match piece {
+        Piece::Letter(letter) => return is_old(old, letter).then_some(plain.spread(letter)),
         Piece::Pair(first, second) => old_run(plain, old, &[first, second]),
         Piece::Three(first, second, third) => old_run(plain, old, &[first, second, third]),
         Piece::Four(first, second, third, fourth) => old_run(
@@ -98,11 +105,17 @@ fn weight(plain: &Plain, old: &[bool], piece: Piece, level: Level) -> Option<u16
             &[first, second, third, fourth],
         ),
     }?;
-    Some(match level {
+    Some(Spread::new(&[weights]))
+}
+
+// The weight of a level.
+fn on(level: Level, triple: &[u16; 3]) -> u16 {
+    let [primary, secondary, tertiary] = *triple;
+    match level {
         Level::Primary => primary,
         Level::Secondary => secondary,
         Level::Tertiary => tertiary,
-    })
+    }
 }
 
 // What old letters weigh together, where they are one.
@@ -124,33 +137,83 @@ pub(crate) fn is_old(old: &[bool], letter: u32) -> bool {
     old.get(letter as usize) == Some(&true)
 }
 
-// Whether what is told has changed.
+// Whether on a level one of a piece's triples weighs 0 in only one of the tables.
+fn has_other_zeros(before: &Spread, now: &Spread, level: Level) -> bool {
+    let mut both = before.triples().iter().zip(now.triples());
+    both.any(|(before, now)| (on(level, before) == 0) != (on(level, now) == 0))
+}
+
+// The first such level.
+fn first_other_zeros(before: &Spread, now: &Spread) -> Option<Level> {
+    for level in Level::ALL {
+        if has_other_zeros(before, now, level) {
+            return Some(level);
+        }
+    }
+    None
+}
+
+// Two pieces, each before and now.
+#[derive(Clone, Copy)]
+struct Two {
+    one: (Spread, Spread),
+    other: (Spread, Spread),
+}
+
+impl Two {
+    // Whether on a level a triple of one stands to one of the other otherwise than before.
+    fn has_turned(&self, level: Level) -> bool {
+        let (before, now) = &self.one;
+        let (other_before, other_now) = &self.other;
+        for (a, c) in before.triples().iter().zip(now.triples()) {
+            for (b, d) in other_before.triples().iter().zip(other_now.triples()) {
+                if on(level, a).cmp(&on(level, b)) != on(level, c).cmp(&on(level, d)) {
+                    return true;
+                }
+            }
+        }
+        false
+    }
+
+    // The first such level.
+    fn first_turned(&self) -> Option<Level> {
+        for level in Level::ALL {
+            if self.has_turned(level) {
+                return Some(level);
+            }
+        }
+        None
+    }
+}
+
+// Whether what is told has changed, and where a level is told, that it is the first.
 pub(crate) fn has_changed(older: &Plain, newer: &Plain, old: &[bool], change: Change) -> bool {
-    let before = |piece, level| weight(older, old, piece, level);
-    let now = |piece, level| weight(newer, old, piece, level);
+    let both = |piece| {
+        let before = weight(older, old, piece)?;
+        Some((before, weight(newer, old, piece)?))
+    };
     if older.utf8 != newer.utf8 {
         return change == Change::Utf8;
     }
     match change {
         Change::Utf8 => false,
         Change::Joins(piece) => {
-            before(piece, Level::Primary).is_some() != now(piece, Level::Primary).is_some()
+            weight(older, old, piece).is_some() != weight(newer, old, piece).is_some()
         }
-        Change::Counts(piece, level) => match (before(piece, level), now(piece, level)) {
-            (Some(before), Some(now)) => (before == 0) != (now == 0),
+        Change::Expands(piece) => match both(piece) {
+            Some((before, now)) => before.triples().len() != now.triples().len(),
+            None => false,
+        },
+        Change::Counts(piece, level) => match both(piece) {
+            Some((before, now)) => {
+                before.triples().len() == now.triples().len()
+                    && first_other_zeros(&before, &now) == Some(level)
+            }
+            None => false,
+        },
+        Change::Order(one, other, level) => match (both(one), both(other)) {
+            (Some(one), Some(other)) => Two { one, other }.first_turned() == Some(level),
             _ => false,
         },
-        Change::Order(one, other, level) => {
-            let all = (
-                before(one, level),
-                before(other, level),
-                now(one, level),
-                now(other, level),
-            );
-            match all {
-                (Some(a), Some(b), Some(c), Some(d)) => a.cmp(&b) != c.cmp(&d),
-                _ => false,
-            }
-        }
     }
 }

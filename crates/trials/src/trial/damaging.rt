@@ -22,6 +22,7 @@ pub(crate) fn run(
     for _ in 0..12 {
         let mut plain = both.plain.copy(heap)?;
         plain.longs.clear();
+        plain.spreads.clear();
         for _ in 0..1 + dice.below(2) {
             damage(heap, dice, &mut plain)?;
         }

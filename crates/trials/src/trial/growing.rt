@@ -7,12 +7,13 @@ use crate::lists::{Lists, in_order};
 use crate::plain::Plain;
 use crate::reading;
 use crate::report::{Kind, Report};
+use crate::spread::Entry;
 use crate::trial::finding::{Listed, ask};
 use crate::trial::{Both, made};
 use catalogue::{CatalogueBuf, NotTaken, PushError};
 use keys::NameRefusal;
 use std::alloc::{AllocError, Global};
-use table::{AddError, Letter, Refusal, Table, Weights};
+use table::{AddError, Refusal, Table};
 
 // A book, and what it should hold.
 #[derive(Drop)]
@@ -177,31 +178,32 @@ impl Grown {
             1..4 => self.alphabet.any(dice),
             _ => self.alphabet.one(dice),
         };
-        let weights = Scale::new(dice).weights(dice);
-        let entry = Letter {
-            letter,
-            weights: Weights::from(weights),
-        };
+        let spread = Scale::new(dice).any(dice, &self.plain, &self.alphabet);
+        let entry = Entry { letter, spread };
         let many = self.plain.letter_count();
-        let refusal = self.plain.letter_refusal(many, letter, weights);
+        let refusal = self.plain.letter_refusal(many, letter, spread);
         let wanted = match refusal {
             Some(why) => Err(AddError::Refused(why)),
             None => Ok(()),
         };
-        let told = self.book.add_letter(entry);
+        let told = self.book.add_letter(entry.lent());
         if told != wanted {
-            let what = format!(in heap; "add_letter {entry:?}: {told:?}, plainly {wanted:?}")?;
+            let what = format!(in heap; "add_letter {entry}: {told:?}, plainly {wanted:?}")?;
             report.differ(&self.plain, what)?;
         }
         report.count(match refusal {
             Some(Refusal::NoLetter(_)) => Kind::LettersForeign,
             Some(Refusal::TooManyLetters) => Kind::LettersTooMany,
+            Some(Refusal::TooManyTriples(_)) => Kind::LettersExcess,
             Some(_) => Kind::LettersTwice,
             None => Kind::LettersAdded,
         });
         if refusal.is_none() {
-            if weights != [0; 3] {
-                self.plain.set_letter(letter, weights);
+            if spread.expanded().is_some() {
+                report.count(Kind::LettersSpread);
+            }
+            if spread.counts() {
+                self.plain.set_letter(letter, spread)?;
             }
             self.in_order = false;
         }

@@ -34,7 +34,7 @@ pub(crate) fn run(
             needs.saturating_sub(1),
             needs,
             needs.saturating_add(1 + dice.below(4)),
-            letters.len().saturating_mul(3).saturating_add(2),
+            letters.len().saturating_mul(9).saturating_add(2),
         ] {
             try_wide(heap, both, &name, size, report)?;
             if both.plain.is_numbers() {
@@ -72,6 +72,9 @@ fn try_key(heap: Global, both: &Both, name: &Name, report: &mut Report) -> Resul
     }
     if name.longest > 2 {
         report.count(Kind::KeysOfLonger);
+    }
+    if name.widest > 1 {
+        report.count(Kind::KeysOfSeveral);
     }
     let told = both.table.key_len(letters);
     if told != needs {

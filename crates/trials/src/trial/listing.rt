@@ -56,6 +56,8 @@ fn try_in_order(
 ) -> Result<(), AllocError> {
     report.count(Kind::Arranged);
     report.add(Kind::NamesArranged, names.len());
+    let several = names.iter().filter(|name| name.widest > 1).count();
+    report.add(Kind::NamesOfSeveral, several);
     for two in lists.places.windows(2) {
         if let [one, next] = two {
             if key_at(names, *one) == key_at(names, *next) {

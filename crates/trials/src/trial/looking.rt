@@ -1,10 +1,10 @@
 // Tables looked into: what letters and runs weigh, and the runs as they lie.
-use crate::alphabet::any_letter;
 use crate::dice::Dice;
 use crate::joined::Joined;
 use crate::plain::Plain;
 use crate::report::{Kind, Report};
 use crate::trial::Both;
+use crate::trial::lettering::{any_number, look_at, look_at_letters, look_at_spreads};
 use std::alloc::{AllocError, Global};
 use table::{AddError, Long, LongRun, Table, TableBuf, Weights};
 
@@ -23,6 +23,9 @@ pub(crate) fn run(
     if !both.plain.longs.is_empty() {
         report.count(Kind::TablesOfLonger);
     }
+    if !both.plain.spreads.is_empty() {
+        report.count(Kind::TablesOfSeveral);
+    }
     look(heap, dice, both, &both.table, report)?;
     let copy = both.table.to_buf(heap)?;
     look(heap, dice, both, &copy.table(), report)?;
@@ -35,7 +38,7 @@ pub(crate) fn run(
     }
 }
 
-// The table, filled run by run, the last one first of the longer ones, and letter by letter.
+// The table, filled run by run, the last one first of the longer ones, and letter by letter, the last one first.
 fn filled(heap: Global, plain: &Plain) -> Result<TableBuf, AddError> {
     let mut own = if plain.utf8 {
         TableBuf::in_utf8(heap)?
@@ -48,8 +51,8 @@ fn filled(heap: Global, plain: &Plain) -> Result<TableBuf, AddError> {
     for pair in plain.listed_runs(heap)?.iter().filter_map(|run| run.pair()) {
         own.add_pair(pair)?;
     }
-    for entry in &plain.listed(heap)? {
-        own.add_letter(*entry)?;
+    for entry in plain.entries(heap)?.iter().rev() {
+        own.add_letter(entry.lent())?;
     }
     Ok(own)
 }
@@ -64,6 +67,7 @@ fn look(
 ) -> Result<(), AllocError> {
     let plain = both.plain;
     look_at_letters(heap, plain, table, report)?;
+    look_at_spreads(heap, plain, table, report)?;
     if plain.utf8 {
         for _ in 0..100 {
             look_at(heap, plain, table, any_number(dice), report)?;
@@ -152,59 +156,6 @@ fn look_at_longs(
 
 fn is_same(one: &Joined, other: &Joined) -> bool {
     one.letters() == other.letters() && one.weights == other.weights
-}
-
-// The letters that are listed, and none behind.
-fn look_at_letters(
-    heap: Global,
-    plain: &Plain,
-    table: &Table,
-    report: &mut Report,
-) -> Result<(), AllocError> {
-    let listed = plain.listed(heap)?;
-    for (place, entry) in listed.iter().enumerate() {
-        look_at(heap, plain, table, entry.letter, report)?;
-        let told = table.letter_at(place);
-        if told != Some(*entry) {
-            let what = format!(in heap; "letter_at {place}: {told:?}, plainly {entry:?}")?;
-            report.differ(plain, what)?;
-        }
-    }
-    let count = listed.len();
-    let told = table.letter_count();
-    if told != count || table.letter_at(count).is_some() || table.letter_at(usize::MAX).is_some() {
-        report.differ(
-            plain,
-            format!(in heap; "letter_count: {told}, plainly {count}")?,
-        )?;
-    }
-    Ok(())
-}
-
-// What a letter weighs.
-fn look_at(
-    heap: Global,
-    plain: &Plain,
-    table: &Table,
-    letter: u32,
-    report: &mut Report,
-) -> Result<(), AllocError> {
-    report.count(Kind::Letters);
-    let weights = table.letter(letter);
-    if weights != Weights::from(plain.letter(letter)) {
-        report.differ(plain, format!(in heap; "letter {letter}: {weights:?}")?)?;
-    }
-    Ok(())
-}
-
-// Any number, letter or not.
-fn any_number(dice: &mut Dice) -> u32 {
-    match dice.below(4) {
-        0 => 0xd800 + dice.below(0x800) as u32,
-        1 => 0x10000 + dice.below(0x10000) as u32,
-        2 => u32::MAX,
-        _ => any_letter(dice, true),
-    }
 }
 
 // What two letters weigh together.

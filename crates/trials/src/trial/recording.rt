@@ -3,10 +3,12 @@ use crate::dice::Dice;
 use crate::joined::{Joined, lent};
 use crate::plain::Plain;
 use crate::report::{Kind, Report};
+use crate::spread::entered;
 use crate::trial::Both;
+use crate::trial::lettering::has_spreads;
 use crate::trial::records::Records;
 use std::alloc::{AllocError, Global};
-use table::{AddError, Letter, Refusal, Table, TableBuf, Weights};
+use table::{AddError, Refusal, Table, TableBuf};
 
 pub(crate) fn run(
     heap: Global,
@@ -16,12 +18,12 @@ pub(crate) fn run(
 ) -> Result<(), AllocError> {
     for _ in 0..4 {
         let mut records = Records {
-            letters: both.plain.listed(heap)?,
+            letters: both.plain.entries(heap)?,
             runs: both.plain.listed_runs(heap)?,
         };
         records.shuffle(dice);
         for _ in 0..dice.below(4) {
-            records.damage(dice, both.alphabet)?;
+            records.damage(dice, both.plain, both.alphabet)?;
         }
         try_at_once(heap, both.plain, &records, report)?;
         try_steps(heap, both.plain, &records, report)?;
@@ -44,17 +46,21 @@ fn try_at_once(
         Some(Refusal::TooManyLetters) => Kind::NoTableTooManyLetters,
         Some(Refusal::LetterTwice(_)) => Kind::NoTableLetterTwice,
         Some(Refusal::RunLength(_)) => Kind::NoTableRunLength,
+        Some(Refusal::TooManyTriples(_)) => Kind::NoTableExcess,
         Some(_) => Kind::NoTableNoLetter,
         None => Kind::TablesUnharmed,
     });
-    match TableBuf::of(&records.letters, &lent(heap, &records.runs)?, heap) {
+    let letters = entered(heap, &records.letters)?;
+    match TableBuf::of(&letters, &lent(heap, &records.runs)?, heap) {
         Ok(own) if refusal.is_none() => {
             let mut wanted = Plain::new(heap, true)?;
             for run in &records.runs {
                 wanted.push_run(*run)?;
             }
             for entry in &records.letters {
-                set_letter(&mut wanted, *entry);
+                if entry.spread.counts() {
+                    wanted.set_letter(entry.letter, entry.spread)?;
+                }
             }
             try_same(heap, &wanted, &own.table(), report)
         }
@@ -95,19 +101,22 @@ fn try_steps(
             }
             let mut many = 0usize;
             for entry in &records.letters {
-                let weights = numbers(entry.weights);
-                let refusal = wanted.letter_refusal(many, entry.letter, weights);
-                let told = own.add_letter(*entry);
+                let refusal = wanted.letter_refusal(many, entry.letter, entry.spread);
+                let told = own.add_letter(entry.lent());
                 report.count(match refusal {
                     Some(Refusal::NoLetter(_)) => Kind::LettersForeign,
                     Some(Refusal::TooManyLetters) => Kind::LettersTooMany,
+                    Some(Refusal::TooManyTriples(_)) => Kind::LettersExcess,
                     Some(_) => Kind::LettersTwice,
                     None => Kind::LettersAdded,
                 });
                 try_answer(heap, plain, told, refusal, report)?;
-                if refusal.is_none() && weights != [0; 3] {
+                if refusal.is_none() && entry.spread.counts() {
+                    if entry.spread.expanded().is_some() {
+                        report.count(Kind::LettersSpread);
+                    }
                     many = many.saturating_add(1);
-                    wanted.set_letter(entry.letter, weights);
+                    wanted.set_letter(entry.letter, entry.spread)?;
                 }
             }
             try_same(heap, &wanted, &own.table(), report)
@@ -155,6 +164,7 @@ fn try_same(
         && table.letter_count() == letters.len()
         && table.pair_count() == wanted.pair_count()
         && table.long_count() == wanted.longs.len()
+        && has_spreads(heap, wanted, table)?
         && letters
             .iter()
             .enumerate()
@@ -169,15 +179,4 @@ fn try_same(
         report.differ(wanted, format!(in heap; "a table of records")?)?;
     }
     Ok(())
-}
-
-fn set_letter(plain: &mut Plain, entry: Letter) {
-    let weights = numbers(entry.weights);
-    if weights != [0; 3] {
-        plain.set_letter(entry.letter, weights);
-    }
-}
-
-fn numbers(weights: Weights) -> [u16; 3] {
-    [weights.primary, weights.secondary, weights.tertiary]
 }

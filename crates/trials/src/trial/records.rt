@@ -3,14 +3,16 @@ use crate::alphabet::{Alphabet, any_letter};
 use crate::dice::Dice;
 use crate::drawn::Scale;
 use crate::joined::Joined;
+use crate::plain::Plain;
 use crate::reading;
+use crate::spread::{Entry, Spread};
 use std::alloc::{AllocError, Global};
-use table::{Letter, Refusal, Weights};
+use table::Refusal;
 
 // Letters and runs, as they are handed over; they need not be those of a table.
 #[derive(Drop)]
 pub(crate) struct Records {
-    pub(crate) letters: Vec<Letter>,
+    pub(crate) letters: Vec<Entry>,
     pub(crate) runs: Vec<Joined>,
 }
 
@@ -35,23 +37,29 @@ impl Records {
     pub(crate) fn damage(
         &mut self,
         dice: &mut Dice,
+        plain: &Plain,
         alphabet: &Alphabet,
     ) -> Result<(), AllocError> {
-        let weights = Weights::from(Scale::new(dice).weights(dice));
+        let spread = Scale::new(dice).any(dice, plain, alphabet);
         let (one, other) = (alphabet.one(dice), alphabet.one(dice));
         let any = any_letter(dice, true);
-        match dice.below(12) {
+        match dice.below(13) {
             0 => {
                 let surrogate = 0xd800 + dice.below(0x800) as u32;
-                self.push(dice, surrogate, weights)
+                self.push(dice, surrogate, spread)
             }
             1 => {
                 let large = 0x10000 + dice.below(0x10000) as u32;
-                self.push(dice, large, weights)
+                self.push(dice, large, spread)
             }
-            2 => self.push(dice, any, Weights::from([0; 3])),
-            3 => self.push(dice, one, weights),
-            4 => self.push(dice, any, weights),
+            2 => {
+                let zeros = [[0; 3]; 3];
+                let end = 1 + dice.below(3);
+                self.push(dice, any, Spread::new(zeros.get(..end).unwrap_or(&[])))
+            }
+            3 => self.push(dice, one, spread),
+            4 => self.push(dice, any, spread),
+            12 => self.push(dice, any, Spread::excess()),
             5 => self.fill(dice),
             6 | 9 => {
                 let more = dice.below(3);
@@ -91,9 +99,9 @@ impl Records {
     }
 
     // A letter more, somewhere between the others.
-    fn push(&mut self, dice: &mut Dice, letter: u32, weights: Weights) -> Result<(), AllocError> {
+    fn push(&mut self, dice: &mut Dice, letter: u32, spread: Spread) -> Result<(), AllocError> {
         let place = dice.below(self.letters.len());
-        let entry = Letter { letter, weights };
+        let entry = Entry { letter, spread };
         self.letters.insert(place.min(self.letters.len()), entry)?;
         Ok(())
     }
@@ -131,16 +139,18 @@ impl Records {
         let most = 1999 + dice.below(3);
         let mut many = 0usize;
         for entry in &self.letters {
-            if entry.weights != Weights::from([0; 3]) {
+            if entry.spread.counts() {
                 many = many.saturating_add(1);
             }
         }
         let first = dice.below(40000) as u32;
         for letter in first..first + 2001 {
             if many < most {
-                self.letters.push(Letter {
+                let triples = [[1, 2, 3], [0, 0, 1]];
+                let end = if letter % 50 == 0 { 2 } else { 1 };
+                self.letters.push(Entry {
                     letter,
-                    weights: Weights::from([1, 2, 3]),
+                    spread: Spread::new(triples.get(..end).unwrap_or(&[])),
                 })?;
                 many = many.saturating_add(1);
             }
@@ -148,8 +158,8 @@ impl Records {
         Ok(())
     }
 
-    // Why they are not those of a table: runs come first, then how many letters weigh something, then which, and then how many
-    // letters a run has.
+    // Why they are not those of a table: runs come first, then how many letters weigh something, then which, then how many letters
+    // a run has, and last that a letter weighs as too many.
     pub(crate) fn refusal(&self, heap: Global) -> Result<Option<Refusal>, AllocError> {
         if let Some(why) = runs_refusal(&self.runs) {
             return Ok(Some(why));
@@ -158,7 +168,7 @@ impl Records {
         let mut fault = None;
         let mut seen = vec![in heap; false; 65536]?;
         for (place, entry) in self.letters.iter().enumerate() {
-            if entry.weights == Weights::from([0; 3]) {
+            if !entry.spread.counts() {
                 continue;
             }
             many = many.saturating_add(1);
@@ -181,11 +191,15 @@ impl Records {
             return Ok(fault);
         }
         let odd = |run: &Joined| run.pair().is_none() && run.long().is_none();
+        if let Some(place) = self.runs.iter().position(odd) {
+            return Ok(Some(Refusal::RunLength(place)));
+        }
+        let excess = |entry: &Entry| entry.spread.is_excess();
         Ok(
-            self.runs
+            self.letters
                 .iter()
-                .position(odd)
-                .map(|place| Refusal::RunLength(place)),
+                .position(excess)
+                .map(|place| Refusal::TooManyTriples(place)),
         )
     }
 }

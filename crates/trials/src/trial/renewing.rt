@@ -1,13 +1,13 @@
 // Newer tables, and what they keep of older ones.
 use crate::alphabet::{Alphabet, Spelling};
 use crate::dice::Dice;
-use crate::drawn::{Drawn, Scale, add_run};
 use crate::joined::Joined;
 use crate::named::compare;
 use crate::plain::Plain;
 use crate::reading;
 use crate::report::{Kind, Report};
-use crate::trial::changed::{are_old, has_changed, is_old, keeps};
+use crate::trial::changed::{are_old, has_changed, keeps};
+use crate::trial::renewed::renewed;
 use crate::trial::{Both, made};
 use order::{Change, Collate, keeps_order};
 use std::alloc::{AllocError, Global};
@@ -66,106 +66,6 @@ pub(crate) fn run(
     Ok(())
 }
 
-// A table made of another: on another scale, with new letters and runs, with one weight or one run changed, or drawn anew.
-fn renewed(heap: Global, dice: &mut Dice, both: &Both, old: &[bool]) -> Result<Plain, AllocError> {
-    let mut newer = both.plain.copy(heap)?;
-    let is_full = newer.letter_count() > 1990;
-    match if is_full { 0 } else { dice.below(10) } {
-        0..3 => rescale(dice, &mut newer),
-        3..5 => add_new(dice, &mut newer, old, both.alphabet)?,
-        5 => {
-            rescale(dice, &mut newer);
-            add_new(dice, &mut newer, old, both.alphabet)?;
-        }
-        6 | 7 => {
-            let weights = Scale::new(dice).weights(dice);
-            newer.set_letter(both.alphabet.one(dice), weights);
-        }
-        8 => change_runs(heap, dice, &mut newer, both.alphabet)?,
-        _ if both.plain.utf8 && dice.once_in(2) => newer = Drawn::in_utf8(heap, dice)?.plain,
-        _ => newer = Drawn::new(heap, dice)?.plain,
-    }
-    Ok(newer)
-}
-
-// Each weight that counts grows, and a larger one is the larger still, unless it comes to the largest of all.
-fn rescale(dice: &mut Dice, newer: &mut Plain) {
-    let factor = 1 + dice.below(3) as u16;
-    let more = dice.below(9) as u16;
-    for number in newer.letters.iter_mut() {
-        if *number != 0 {
-            *number = number.saturating_mul(factor).saturating_add(more);
-        }
-    }
-    for (place, number) in newer.pairs.iter_mut().enumerate() {
-        if place % 5 >= 2 && *number != 0 {
-            *number = number.saturating_mul(factor).saturating_add(more);
-        }
-    }
-    for run in newer.longs.iter_mut() {
-        for number in run.weights.iter_mut() {
-            if *number != 0 {
-                *number = number.saturating_mul(factor).saturating_add(more);
-            }
-        }
-    }
-}
-
-// New letters weigh something else, and are one with others.
-fn add_new(
-    dice: &mut Dice,
-    newer: &mut Plain,
-    old: &[bool],
-    alphabet: &Alphabet,
-) -> Result<(), AllocError> {
-    for _ in 0..6 {
-        let scale = Scale::new(dice);
-        let letter = alphabet.any(dice);
-        if !is_old(old, letter) {
-            newer.set_letter(letter, scale.weights(dice));
-            let mut letters = [
-                alphabet.any(dice),
-                alphabet.one(dice),
-                alphabet.one(dice),
-                letter,
-            ];
-            let at = dice.below(4);
-            letters.swap(at, 3);
-            let many = 2 + dice.below(3);
-            let run = letters.get(..many).unwrap_or(&[]);
-            if run.contains(&letter) {
-                add_run(dice, newer, run, scale)?;
-            }
-        }
-    }
-    Ok(())
-}
-
-// One run less, or one more, or one less and one more.
-fn change_runs(
-    heap: Global,
-    dice: &mut Dice,
-    newer: &mut Plain,
-    alphabet: &Alphabet,
-) -> Result<(), AllocError> {
-    if dice.once_in(2) {
-        let place = dice.below(newer.run_count());
-        newer.drop_run(heap, place)?;
-    }
-    if dice.once_in(2) {
-        let letters = [
-            alphabet.one(dice),
-            alphabet.one(dice),
-            alphabet.one(dice),
-            alphabet.one(dice),
-        ];
-        let many = 2 + dice.below(3);
-        let scale = Scale::new(dice);
-        add_run(dice, newer, letters.get(..many).unwrap_or(&[]), scale)?;
-    }
-    Ok(())
-}
-
 // The longer runs of a table whose letters are all old.
 fn old_longs(heap: Global, plain: &Plain, old: &[bool]) -> Result<Vec<Joined>, AllocError> {
     let mut longs = Vec::new(heap);
@@ -191,6 +91,7 @@ fn try_change(
         Ok(()) => Kind::NewerKeeps,
         Err(Change::Utf8) => Kind::NewerReads,
         Err(Change::Joins(_)) => Kind::NewerJoins,
+        Err(Change::Expands(_)) => Kind::NewerExpands,
         Err(Change::Counts(_, _)) => Kind::NewerCounts,
         Err(Change::Order(_, _, _)) => Kind::NewerOrders,
     });

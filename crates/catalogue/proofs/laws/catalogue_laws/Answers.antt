@@ -2,6 +2,7 @@ use Rattle.catalogue.proofs.Inserting.{some_list}
 use Rattle.catalogue.proofs.Lawful.{all_begin, just_that_part, part_there, tiled}
 use Rattle.catalogue.proofs.Once.{one_list}
 use Rattle.catalogue.proofs.Plain.{exactly_lists, exactly_names, first_of_names, first_of_places}
+use Rattle.catalogue.proofs.Written.{together}
 use Rattle.catalogue.proofs.laws.catalogue_laws.Goals as goal
 
 pub returns-clause-laws : goal.returns-clause-laws
@@ -14,6 +15,7 @@ returns-clause-laws c = record {
   just_that_part = just_that_part;
   part_there = part_there;
   all_begin = all_begin;
+  written_out_together = together;
   some_list = some_list;
   one_list = one_list;
 }

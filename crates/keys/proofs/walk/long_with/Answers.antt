@@ -3,6 +3,7 @@ use Rattle.table.specs.Meaning.{rules_of}
 use Rattle.keys.specs.Letters.{Split, letters_in}
 use Rattle.keys.specs.Pieces.{met}
 use Rattle.keys.specs.Reading.{LongWith}
+use Rattle.keys.proofs.Widening.{runs_alone}
 use Rattle.keys.proofs.Running.{four_met, four_not, further_on, none_behind, one_behind, split_letters, split_none, three_met, three_not}
 use Rattle.keys.proofs.walk.long_with.Goals as goal
 use Rattle.keys.proofs.walk.long_with.Goals.{in-Some+in_default-long, in_default}
@@ -24,7 +25,7 @@ returns-in-Some-long c =
     let s = subst (λ u. Split u n (Some (c.in_ok-third.third, m))) u c.in_ok-third.ensures in
     let r = subst (λ u. Split u m.now (Some (c.in-Some.fourth, l))) u c.in-Some.ensures in
     let e = split_letters t n c.in_ok-third.third m s ∙ ap (λ x. c.in_ok-third.third ∷ x) (split_letters t m.now c.in-Some.fourth l r) in (
-      four_met t c.args.first c.args.second (letters_in t.utf8 n) c.in_ok-third.third c.in-Some.fourth (letters_in t.utf8 l.now) e c.in-Some-long.weights (sym c.long.ensures ∙ c.in-Some-long.is),
+      four_met t c.args.first c.args.second (letters_in t.utf8 n) c.in_ok-third.third c.in-Some.fourth (letters_in t.utf8 l.now) e c.in-Some-long.weights (runs_alone c.args.table.now) (sym c.long.ensures ∙ c.in-Some-long.is),
       further_on n m.now l.now s.0 r.0 s.2 r.2,
     )
 
@@ -67,6 +68,6 @@ returns c =
       | in_default w ↦
           one_behind t a b (letters_in t.utf8 n) c.in_ok-third.third (e ∙ ap (λ x. c.in_ok-third.third ∷ x) (split_none t m.now (subst (λ u. Split u m.now None) u w.in_default.ensures)))
     ] in (
-      three_met t a b (letters_in t.utf8 n) c.in_ok-third.third (letters_in t.utf8 m.now) e c.in_ok-weights.weights f (sym c.long-2.ensures ∙ c.in_ok-weights.was),
+      three_met t a b (letters_in t.utf8 n) c.in_ok-third.third (letters_in t.utf8 m.now) e c.in_ok-weights.weights (runs_alone c.args.table.now) f (sym c.long-2.ensures ∙ c.in_ok-weights.was),
       (s.0, s.2),
     )

@@ -5,6 +5,7 @@ use Rattle.keys.specs.Letters.{Split, letters_in}
 use Rattle.keys.specs.Pieces.{met, taken}
 use Rattle.keys.specs.Reading.{LongWith, PieceAt, RunWith}
 use Rattle.keys.proofs.Reading.{no_other}
+use Rattle.keys.proofs.Widening.{runs_alone}
 use Rattle.keys.proofs.Running.{further_on, last_alone, split_letters, split_none, two_met, two_not}
 use Rattle.keys.proofs.walk.run_with.Goals as goal
 use Rattle.keys.proofs.walk.run_with.Goals.{then-long_count-gt0+in_default, else-long_count-gt0}
@@ -62,5 +63,5 @@ returns c =
           (no_other t.joins o 4 (a ∷ (b ∷ letters_in t.utf8 m.now)) (λ q. omega arith), no_other t.joins o 3 (a ∷ (b ∷ letters_in t.utf8 m.now)) (λ q. omega arith))
       | then-long_count-gt0+in_default w ↦ subst (LongWith t a b m.now) w.in_default.is w.long_with.ensures
     ] in
-    let p = two_met t a b (letters_in t.utf8 m.now) f.0 f.1 c.in_ok-weights.weights (sym c.pair.ensures ∙ c.in_ok-weights.was) in
+    let p = two_met t a b (letters_in t.utf8 m.now) f.0 f.1 c.in_ok-weights.weights (runs_alone c.args.table.now) (sym c.pair.ensures ∙ c.in_ok-weights.was) in
     (subst (λ x. PieceAt t (a ∷ x) (letters_in t.utf8 m.now) c.in_ok-weights.weights) (sym e) p, (s.0, s.2))

@@ -6,4 +6,4 @@ pub loop-letter-init : goal.loop-letter-init
 loop-letter-init g c = rw letters_none (unwritten _)
 
 pub loop-letter-preserved : goal.loop-letter-preserved
-loop-letter-preserved g c = rw letters_more (both_written _ _ _ _ _ c.loop-letter.invariant (rw c.letter-weights.ensures at c.in_ok-write_letter.ensures))
+loop-letter-preserved g c = rw letters_more (both_written _ _ _ _ _ c.loop-letter.invariant (rw c.triples-weights.ensures at c.in_ok-write_letter.ensures))

@@ -23,12 +23,12 @@ returns-in_err-new-2 c =
     let d = in_older_only c.args.old.now (rules_of c.args.older.now) (rules_of c.args.newer.now) (read_alike _ _ _ _ c.utf8-2.ensures c.utf8-2-2.ensures c.if-utf8.false) c.in-Some-piece.piece c.in_err-new-2.field-0.0 o c.in_err-new-2.ensures in
     subst (Decided (old_in c.args.old.now) (rules_of c.args.older.now) (rules_of c.args.newer.now)) (sym (err_is _ _ c.from_residual-in_err-new-2.ensures.1)) d
 
-pub returns-in_err-same_zeros : goal.returns-in_err-same_zeros
-returns-in_err-same_zeros c =
+pub returns-in_err-same_parts : goal.returns-in_err-same_parts
+returns-in_err-same_parts c =
     let o = met c.args.older.now c.args.old.now (Counted c.args.old.now (rules_of c.args.older.now) (rules_of c.args.newer.now)) c.loop-piece-2.piece-iterator c.in-Some-piece.piece _ c.in-Some-piece.ensures.steps c.loop-piece-2.invariant.2 in
     let j = none_joined c.args.old.now c.args.older.now c.args.newer.now (all_pieces c.args.old.now c.args.older.now c.args.newer.now (walked_all c.args.newer.now c.args.old.now (λ q. is_piece (rules_of c.args.older.now) q ≡ true) c.loop-piece.piece-iterator c.in-None.ensures.steps c.loop-piece.invariant.2)) in
-    let d = zero_changed c.args.old.now (rules_of c.args.older.now) (rules_of c.args.newer.now) (read_alike _ _ _ _ c.utf8-2.ensures c.utf8-2-2.ensures c.if-utf8.false) c.in-Some-piece.piece c.in_ok-new-2.field-0 c.in_err-same_zeros.field-0.0 j o c.in_ok-new-2.ensures c.in_err-same_zeros.ensures in
-    subst (Decided (old_in c.args.old.now) (rules_of c.args.older.now) (rules_of c.args.newer.now)) (sym (err_is _ _ c.from_residual-in_err-same_zeros.ensures.1)) d
+    let d = zero_changed c.args.old.now (rules_of c.args.older.now) (rules_of c.args.newer.now) (read_alike _ _ _ _ c.utf8-2.ensures c.utf8-2-2.ensures c.if-utf8.false) c.in-Some-piece.piece c.in_ok-new-2.field-0 c.in_err-same_parts.field-0.0 j o c.in_ok-new-2.ensures c.in_err-same_parts.ensures in
+    subst (Decided (old_in c.args.old.now) (rules_of c.args.older.now) (rules_of c.args.newer.now)) (sym (err_is _ _ c.from_residual-in_err-same_parts.ensures.1)) d
 
 pub returns-in_err-new-3 : goal.returns-in_err-new-3
 returns-in_err-new-3 c =
@@ -37,14 +37,14 @@ returns-in_err-new-3 c =
     let e = err_is _ _ c.from_residual-in_err-new-3.ensures.1 in
     subst (Decided (old_in c.args.old.now) (rules_of c.args.older.now) (rules_of c.args.newer.now)) (sym e) d
 
-pub returns-in_err-same_zeros-2 : goal.returns-in_err-same_zeros-2
-returns-in_err-same_zeros-2 c =
+pub returns-in_err-same_parts-2 : goal.returns-in_err-same_parts-2
+returns-in_err-same_parts-2 c =
     let n = met c.args.newer.now c.args.old.now (Counted c.args.old.now (rules_of c.args.older.now) (rules_of c.args.newer.now)) c.loop-piece-3.piece-iterator c.in-Some-piece-2.piece _ c.in-Some-piece-2.ensures.steps c.loop-piece-3.invariant.2 in
     let a = all_pieces c.args.old.now c.args.older.now c.args.newer.now (walked_all c.args.newer.now c.args.old.now (λ q. is_piece (rules_of c.args.older.now) q ≡ true) c.loop-piece.piece-iterator c.in-None.ensures.steps c.loop-piece.invariant.2) in
     let j = none_joined c.args.old.now c.args.older.now c.args.newer.now a in
     let o = old_too c.args.old.now (rules_of c.args.older.now) (rules_of c.args.newer.now) (run_in c.in-Some-piece-2.piece) n (a (run_in c.in-Some-piece-2.piece) n) in
-    let d = zero_changed c.args.old.now (rules_of c.args.older.now) (rules_of c.args.newer.now) (read_alike _ _ _ _ c.utf8-2.ensures c.utf8-2-2.ensures c.if-utf8.false) c.in-Some-piece-2.piece c.in_ok-new-3.field-0 c.in_err-same_zeros-2.field-0.0 j o c.in_ok-new-3.ensures c.in_err-same_zeros-2.ensures in
-    let e = err_is _ _ c.from_residual-in_err-same_zeros-2.ensures.1 in
+    let d = zero_changed c.args.old.now (rules_of c.args.older.now) (rules_of c.args.newer.now) (read_alike _ _ _ _ c.utf8-2.ensures c.utf8-2-2.ensures c.if-utf8.false) c.in-Some-piece-2.piece c.in_ok-new-3.field-0 c.in_err-same_parts-2.field-0.0 j o c.in_ok-new-3.ensures c.in_err-same_parts-2.ensures in
+    let e = err_is _ _ c.from_residual-in_err-same_parts-2.ensures.1 in
     subst (Decided (old_in c.args.old.now) (rules_of c.args.older.now) (rules_of c.args.newer.now)) (sym e) d
 
 pub returns-in_err-weighed : goal.returns-in_err-weighed
@@ -78,12 +78,12 @@ loop-piece-preserved c =
 
 pub loop-piece-2-preserved : goal.loop-piece-2-preserved
 loop-piece-2-preserved c =
-    let k = counted c.args.old.now (rules_of c.args.older.now) (rules_of c.args.newer.now) c.in-Some-piece.piece c.in_ok-new-2.field-0 c.in_ok-new-2.ensures c.in_ok-same_zeros.ensures in
+    let k = counted c.args.old.now (rules_of c.args.older.now) (rules_of c.args.newer.now) c.in-Some-piece.piece c.in_ok-new-2.field-0 c.in_ok-new-2.ensures c.in_ok-same_parts.ensures in
     (tt, tt, walked_more c.args.older.now c.args.old.now (Counted c.args.old.now (rules_of c.args.older.now) (rules_of c.args.newer.now)) c.loop-piece-2.piece-iterator c.in-Some-piece.piece _ c.in-Some-piece.ensures.steps c.loop-piece-2.invariant.2 k)
 
 pub loop-piece-3-preserved : goal.loop-piece-3-preserved
 loop-piece-3-preserved c =
-    let k = counted c.args.old.now (rules_of c.args.older.now) (rules_of c.args.newer.now) c.in-Some-piece-2.piece c.in_ok-new-3.field-0 c.in_ok-new-3.ensures c.in_ok-same_zeros-2.ensures in
+    let k = counted c.args.old.now (rules_of c.args.older.now) (rules_of c.args.newer.now) c.in-Some-piece-2.piece c.in_ok-new-3.field-0 c.in_ok-new-3.ensures c.in_ok-same_parts-2.ensures in
     (tt, tt, walked_more c.args.newer.now c.args.old.now (Counted c.args.old.now (rules_of c.args.older.now) (rules_of c.args.newer.now)) c.loop-piece-3.piece-iterator c.in-Some-piece-2.piece _ c.in-Some-piece-2.ensures.steps c.loop-piece-3.invariant.2 k)
 
 pub loop-piece-4-preserved : goal.loop-piece-4-preserved

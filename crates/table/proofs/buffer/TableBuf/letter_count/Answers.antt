@@ -37,5 +37,14 @@ overflow_add-result c =
     let i = c.loop-letter.invariant in
     let m = many_most (λ a. counts (weights_at (vec_items c.args.self.now.letters) (3 * a))) c.loop-letter.letter in
     let t = c.loop-letter-test.false in
-    let o = c.args.self.now.others.ok in
+    let o = c.as_slice-2.type_inv in
+    omega arith
+
+pub overflow_add-result-2 : goal.overflow_add-result-2
+overflow_add-result-2 c =
+    let i = c.loop-letter.invariant in
+    let m = many_most (λ a. counts (weights_at (vec_items c.args.self.now.letters) (3 * a))) c.loop-letter.letter in
+    let t = c.loop-letter-test.false in
+    let o = c.as_slice-2.type_inv in
+    let x = c.as_slice-3.type_inv in
     omega arith

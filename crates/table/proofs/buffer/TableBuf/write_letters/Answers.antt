@@ -1,11 +1,11 @@
 use mathlib.Core.Path.{subst⁻¹}
-use Rattle.std.proofs.Common.{◌≡◌, ◌+◌, ℕ, [], ◌∷◌, get_or, take, vec_items, true, false, refl, sym, ap, ap₂, ◌∙◌, arith}
-use Rattle.table.specs.Buffer.{buffer_count, is_letter_of, many_runs}
+use Rattle.std.proofs.Common.{◌≡◌, ◌+◌, ℕ, get_or, length, ltb, ◌||◌, take, true, false, refl, sym, ap, ap₂, ◌∙◌, arith}
+use Rattle.table.specs.Buffer.{many_runs}
+use Rattle.table.specs.Entries.{is_letter_of}
 use Rattle.table.specs.Records.{Says}
-use Rattle.table.specs.Rules.{rules_by, weighs_in, with_letter}
-use Rattle.table.proofs.Longs.{longs_letter}
-use Rattle.pieces.specs.Runs.{counts}
-use Rattle.table.proofs.Told.{entry_free, letter_said, many_said, no_letter, nothing_said}
+use Rattle.table.specs.Rules.{is_weighed, with_triples}
+use Rattle.pieces.specs.Runs.{alone, counts, several}
+use Rattle.table.proofs.Told.{entry_fits, entry_free, letter_said, many_said, no_letter, nothing_said, untold}
 use Rattle.table.proofs.buffer.TableBuf.write_letters.Goals as goal
 use Rattle.table.proofs.buffer.TableBuf.write_letters.Goals.{then-counts+in_ok-write_letter, else-counts}
 
@@ -17,14 +17,15 @@ write_letter-requires-clause-letter c =
     ap (λ t. is_letter_of t.utf8 (get_or ls k no_letter).letter) c.loop-entry.invariant.0 ∙ f.0
 
 pub write_letter-requires-clause-free : goal.write_letter-requires-clause-free
-unfolding weighs_in
 write_letter-requires-clause-free c =
     let ls = c.args.letters.now in
     let k = c.loop-entry.entry-index in
     let f = entry_free ls c.requires.letters k c.loop-entry-test.true (sym c.counts.ensures ∙ c.if-counts.true) in
-    let b = c.loop-entry.self in
-    let t = rules_by b.utf8 (vec_items b.letters) (vec_items b.others) (vec_items b.pairs) (buffer_count b) in
-    ap counts (sym (longs_letter t (vec_items b.longs) (get_or ls k no_letter).letter)) ∙ (ap (λ t. counts (t.weighs ((get_or ls k no_letter).letter ∷ []))) c.loop-entry.invariant.0 ∙ f.1)
+    let a = (get_or ls k no_letter).letter in
+    ap (λ t. is_weighed t a) c.loop-entry.invariant.0 ∙ ap (λ x. counts (alone x) || ltb 0 (length (several x))) (untold (take k ls) a f.1)
+
+pub write_letter-requires-clause-fits : goal.write_letter-requires-clause-fits
+write_letter-requires-clause-fits c = entry_fits c.args.letters.now c.requires.fit c.loop-entry.entry-index c.loop-entry-test.true
 
 pub loop-entry-preserved : goal.loop-entry-preserved
 loop-entry-preserved c =
@@ -39,7 +40,7 @@ loop-entry-preserved c =
           let d = w.in_ok-write_letter.ensures in
           let t = sym c.counts.ensures ∙ w.if-counts.true in
           subst⁻¹ (Says (take (k + 1) ls) rs) w.self-is (
-            d.0 ∙ (ap (λ t. with_letter t e.letter e.weights) i.0 ∙ letter_said ls rs c.requires.letters k l e refl t),
+            d.0 ∙ (ap (λ t. with_triples t e.letter e.weights) i.0 ∙ letter_said ls rs c.requires.letters c.requires.fit k l e refl t),
             d.1 ∙ (ap (λ n. n + 1) i.1 ∙ sym (many_said ls k true l t)),
             ap₂ many_runs d.2 d.3 ∙ i.2,
           )

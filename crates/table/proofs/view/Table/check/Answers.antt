@@ -1,7 +1,7 @@
 use Rattle.std.proofs.Common.{length, refl, sym, ◌∙◌, arith}
-use Rattle.pieces.specs.Ranks.{rises}
+use Rattle.pieces.specs.Ranks.{climbs, rises}
 use Rattle.pieces.specs.Runs.{none_twice}
-use Rattle.table.specs.Entries.{ascends}
+use Rattle.table.proofs.Entries.{no_expansions}
 use Rattle.table.proofs.Longs.{no_longs}
 use Rattle.table.proofs.Refusing.{by_shape, fifth, has_foreign, no_refusal, refused, shape_sound, taken, turned_away, twice_left}
 use Rattle.table.proofs.view.Table.check.Goals as goal
@@ -36,7 +36,7 @@ invariant_of-result-clause-known c =
     rw (p.0, p.1) f
 
 pub invariant_of-result-clause-ascends : goal.invariant_of-result-clause-ascends
-unfolding ascends
+unfolding climbs
 invariant_of-result-clause-ascends c = refl
 
 pub invariant_of-result-clause-few : goal.invariant_of-result-clause-few
@@ -50,6 +50,10 @@ pub invariant_of-result-clause-long_apart : goal.invariant_of-result-clause-long
 unfolding none_twice
 invariant_of-result-clause-long_apart c = refl
 
+pub invariant_of-result-clause-expand : goal.invariant_of-result-clause-expand
+unfolding climbs
+invariant_of-result-clause-expand c = refl
+
 pub returns : goal.returns
 returns c =
     let s = shape_sound _ _ _ (taken _ (sym c.in_ok-check_shape.was ∙ c.check_shape.ensures)) in
@@ -60,7 +64,8 @@ returns c =
     let p = rw b at q in
     let a = c.chain.new.self.apart in (
       no_refusal c.args.letters.now c.args.pairs.now c.args.how_many s.0 s.1 s.2 (rw n at f) (rw (p.0, p.1, n) at a),
-      no_longs _ ∙ rw (p.0, p.1, n),
+      no_expansions _ (λ run. refl) ∙ (no_longs _ ∙ rw (p.0, p.1, n)),
       rw (p.0, p.1, n),
+      refl,
       refl,
     )

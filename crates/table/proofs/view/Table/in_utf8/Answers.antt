@@ -1,5 +1,6 @@
 use Rattle.std.proofs.Common.{true}
 use Rattle.std.proofs.lemmas.Bool.{true≢false}
+use Rattle.table.proofs.Entries.{expansions_in_utf8}
 use Rattle.table.specs.Refusals.{foreign}
 use Rattle.table.proofs.Firsts.{none_at, none_below}
 use Rattle.table.proofs.Longs.{longs_known}
@@ -20,5 +21,6 @@ invariant_of-result c =
       rise = t.rise;
       long_apart = t.long_apart;
       long_known = longs_known t.utf8 t.longs.now t.long_known;
+      expand = expansions_in_utf8 t.utf8 t.letters.now t.others.now t.expansions.now t.expand;
       marked = t.marked;
     }

@@ -1,8 +1,8 @@
 use Rattle.std.proofs.Common.{[], false, ap₂, refl, sym, ◌∙◌, arith}
-use Rattle.pieces.specs.Ranks.{rises}
+use Rattle.pieces.specs.Ranks.{climbs, rises}
 use Rattle.pieces.specs.Runs.{none_twice}
 use Rattle.table.specs.Chain.{all_marks, begun}
-use Rattle.table.specs.Entries.{ascends}
+use Rattle.table.proofs.Entries.{no_expansions}
 use Rattle.table.specs.Numbers.{pairs_in}
 use Rattle.table.specs.Refusals.{first_place, foreign}
 use Rattle.table.specs.Rules.{rules_by}
@@ -11,7 +11,7 @@ use Rattle.table.proofs.Saying.{blank_rules}
 use Rattle.table.proofs.view.blank.TableDefault.default.Goals as goal
 
 pub invariant_of-result : goal.invariant_of-result
-unfolding ascends first_place rises none_twice begun
+unfolding climbs first_place rises none_twice begun
 invariant_of-result c =
     let e = c.new.ensures.0 in
     let f = c.new.ensures.1 in
@@ -26,6 +26,7 @@ invariant_of-result c =
       rise = refl;
       long_apart = refl;
       long_known = refl;
+      expand = refl;
       marked = sym (ap₂ (λ ps n. all_marks ps n []) e f);
     }
 
@@ -33,4 +34,4 @@ pub returns : goal.returns
 returns c =
     let e = c.new.ensures.0 in
     let f = c.new.ensures.1 in
-    (no_longs _ ∙ (ap₂ (λ ps n. rules_by false _ [] ps n) e f ∙ blank_rules false), ap₂ pairs_in e f, refl)
+    (no_expansions _ (λ run. refl) ∙ (no_longs _ ∙ (ap₂ (λ ps n. rules_by false _ [] ps n) e f ∙ blank_rules false)), ap₂ pairs_in e f, refl, refl)
