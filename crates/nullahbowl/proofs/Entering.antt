@@ -2,9 +2,9 @@
 use mathlib.Core.HLevel.{is_prop→PathP}
 use Rattle.std.proofs.Props.{props}
 use Rattle.catalogue.specs.declared.buffer.CatalogueBuf.{CatalogueBuf}
-use Rattle.table.specs.Buffer.{buffer_letters, buffer_rules, buffer_runs, many_runs}
+use Rattle.table.specs.Buffer.{buffer_letters, buffer_pairs, buffer_rules, buffer_runs, many_runs}
 use Rattle.table.specs.Rules.{in_utf8, Rules}
-use Rattle.table.specs.Valley.{valley}
+use Rattle.table.specs.Valley.{valley, valley_pairs}
 use Rattle.std.proofs.Common.{false, ◌≡◌, Bool, true, List, Err, Ok, IsErrAnd, Option, Result, ap₂, sym, ◌∙◌}
 use Rattle.std.proofs.lemmas.Bool.{cond-true, true≢false}
 use Rattle.catalogue.specs.Filling.{EntryPut, held_rules}
@@ -21,7 +21,7 @@ use Rattle.pieces.specs.declared.piece.Pair.{Pair}
 
 -- what is kept of a session's table
 abbrev Held : Session → CatalogueBuf → Type 0
-Held s b = ((buffer_rules b.table).utf8 ≡ true) × (s.own ≡ false → buffer_rules b.table ≡ in_utf8 valley)
+Held s b = ((buffer_rules b.table).utf8 ≡ true) × (s.own ≡ false → (buffer_rules b.table ≡ in_utf8 valley) × (buffer_pairs b.table ≡ valley_pairs))
 
 -- What adding it to the table of the lines says is what the line is answered. It is said apart since a refusal has more cases than
 -- are split by themselves.

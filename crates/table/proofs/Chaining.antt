@@ -1,11 +1,11 @@
 -- Following the chain of a bucket meets the pair that looking at every place would.
-use Rattle.std.proofs.Common.{◌||◌, ◌≡◌, ℕ, zero, suc, ◌+◌, ◌%◌, ◌<◌, ◌≤◌, cond, eqb, List, length, get_or, set, replicate, Some, None, Option, sym, refl, ap, ◌∙◌, ⊎_elim, add-one, arith, IfSome, true, false}
+use Rattle.std.proofs.Common.{◌||◌, ◌≡◌, ℕ, zero, suc, ◌+◌, ◌%◌, ◌<◌, ◌≤◌, cond, eqb, List, length, get_or, map, set, replicate, Some, None, Option, sym, refl, ap, ◌∙◌, ⊎_elim, add-one, arith, IfSome, true, false}
 use Rattle.std.proofs.lemmas.List.FromFn.{length-map-range_with_len, get_or-map-range_with_len}
-use Rattle.std.proofs.lemmas.List.{ext_get_or, length-set, get_or-set_same, get_or-set_other}
+use Rattle.std.proofs.lemmas.List.{ext_get_or, get_or-map, length-set, get_or-set_same, get_or-set_other, map-set}
 use Rattle.std.proofs.lemmas.Bool.{cond-false, cond-true, eq-eqb, ne_eqb, cases_eq}
 use Rattle.std.proofs.lemmas.Bool.Decides.{nat_tests}
 use Rattle.table.specs.Numbers.{first_at, is_pair, second_at, place_in}
-use Rattle.table.specs.Chain.{begun, bucket, bucket_at, heads_of, last_in, link_of, marks_of}
+use Rattle.table.specs.Chain.{begun, bucket, bucket_at, counted_place, heads_of, last_in, link_of, marks_of}
 
 -- how many places a chain that begins here may still meet
 pub height : Option ℕ → ℕ
@@ -89,9 +89,14 @@ unfolding place_in along height
 nowhere ps h n a b f = f.same
 
 -- heads and links while pairs are chained one after the other
-pub no_heads : (ps : List ℕ) → heads_of ps 0 ≡ replicate 256 None
-unfolding last_in
+pub no_heads : (ps : List ℕ) → map counted_place (replicate 256 0) ≡ heads_of ps 0
+unfolding last_in counted_place
 no_heads ps = refl
+
+-- a place, counted from 1, and back
+counted_more : (n : ℕ) → counted_place (n + 1) ≡ Some n
+unfolding counted_place
+counted_more n = rw add-one
 
 pub head_at : (ps : List ℕ) (n a : ℕ) → a < 256 → get_or (heads_of ps n) a None ≡ last_in ps n a
 head_at ps n a h = get_or-map-range_with_len (last_in ps n) 0 256 a a None h (omega arith)
@@ -125,28 +130,31 @@ heads_more ps n =
     let m = length-map-range_with_len (last_in ps (n + 1)) 0 256 in
     ext_get_or None _ _ (j ∙ k ∙ sym m) (λ a l. head_more ps n a (under _ a 256 (j ∙ k) l))
 
-link_more : (ps : List ℕ) (links : List (Option ℕ)) (n : ℕ) → n < length links → ((k : ℕ) → k < n → get_or links k None ≡ link_of ps k) →
-    (k : ℕ) → k < n + 1 → get_or (set links n (link_of ps n)) k None ≡ link_of ps k
-link_more ps links n l h k m =
+link_more : (ps links : List ℕ) (n v : ℕ) → n < length links → counted_place v ≡ link_of ps n → ((k : ℕ) → k < n → counted_place (get_or links k 0) ≡ link_of ps k) →
+    (k : ℕ) → k < n + 1 → counted_place (get_or (set links n v) k 0) ≡ link_of ps k
+link_more ps links n v l e h k m =
     ⊎_elim
-    (λ e. rw e (get_or-set_same links n (link_of ps n) None l))
-    (λ e. get_or-set_other links n k (link_of ps n) None e ∙ h k (omega arith))
+    (λ q. rw q (ap counted_place (get_or-set_same links n v 0 l) ∙ e))
+    (λ q. ap counted_place (get_or-set_other links n k v 0 q) ∙ h k (omega arith))
     (cases_eq k n)
 
 -- one pair more is chained by one write to each array
-pub record Linked (ps : List ℕ) (n : ℕ) (heads links : List (Option ℕ)) : Type 0 where
-  pub begun : heads ≡ heads_of ps n
-  pub linked : (k : ℕ) → k < n → get_or links k None ≡ link_of ps k
+pub record Linked (ps : List ℕ) (n : ℕ) (heads links : List ℕ) : Type 0 where
+  pub begun : map counted_place heads ≡ heads_of ps n
+  pub linked : (k : ℕ) → k < n → counted_place (get_or links k 0) ≡ link_of ps k
 
 pub linked_more :
-    (ps : List ℕ) (n : ℕ) (heads links : List (Option ℕ)) → n < length links → Linked ps n heads links →
-    Linked ps (n + 1) (set heads (bucket_at ps n) (Some n)) (set links n (get_or heads (bucket_at ps n) None))
-linked_more ps n heads links l h =
+    (ps : List ℕ) (n : ℕ) (heads links : List ℕ) → length heads ≡ 256 → n < length links → Linked ps n heads links →
+    Linked ps (n + 1) (set heads (bucket_at ps n) (n + 1)) (set links n (get_or heads (bucket_at ps n) 0))
+linked_more ps n heads links s l h =
     let f = bucket_below (first_at ps n) (second_at ps n) in
-    let a = ap (λ hs. get_or hs (bucket_at ps n) None) h.begun ∙ head_at ps n (bucket_at ps n) f in
+    let m = get_or-map counted_place heads (bucket_at ps n) 0 None (omega arith) in
+    let a = sym m ∙ (ap (λ hs. get_or hs (bucket_at ps n) None) h.begun ∙ head_at ps n (bucket_at ps n) f) in
     record {
-      begun = ap (λ hs. set hs (bucket_at ps n) (Some n)) h.begun ∙ heads_more ps n;
-      linked = λ k j. ap (λ v. get_or (set links n v) k None) a ∙ link_more ps links n l h.linked k j;
+      begun =
+          map-set counted_place heads (bucket_at ps n) (n + 1)
+          ∙ (ap (set (map counted_place heads) (bucket_at ps n)) (counted_more n) ∙ (ap (λ hs. set hs (bucket_at ps n) (Some n)) h.begun ∙ heads_more ps n));
+      linked = link_more ps links n (get_or heads (bucket_at ps n) 0) l a h.linked;
     }
 
 -- a letter that begins no pair

@@ -4,6 +4,7 @@ pub mod Firsts
 pub mod Entries
 pub mod Places
 pub mod Refusing
+pub mod Recorded
 pub mod Saying
 pub mod Longs
 pub mod Valleys

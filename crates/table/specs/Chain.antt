@@ -21,6 +21,11 @@ last_in ps (suc k) h = cond (bucket_at ps k == h) (Some k) (last_in ps k h)
 abbrev pub heads_of : List ℕ → (n : ℕ) → List (Option ℕ)
 heads_of ps n = map (last_in ps n) (range_with_len 0 256)
 
+-- the place that an index counts from 1, and none that it counts 0
+unfoldable pub counted_place : ℕ → Option ℕ
+counted_place zero = None
+counted_place (suc k) = Some k
+
 -- what is next in the chain behind the pair at place k
 abbrev pub link_of : List ℕ → ℕ → Option ℕ
 link_of ps k = last_in ps k (bucket_at ps k)

@@ -5,16 +5,20 @@ use Rattle.std.specs.List.{slice_get}
 use Rattle.table.specs.declared.fault.Refusal.TheVariants.{Foreign, Twice}
 use Rattle.pieces.specs.declared.piece.Expansion.{Expansion}
 use Rattle.pieces.specs.declared.piece.Letter.{Letter}
+use Rattle.pieces.specs.declared.piece.LetterEntry.{LetterEntry}
 use Rattle.pieces.specs.declared.piece.Long.{Long}
 use Rattle.pieces.specs.declared.piece.Pair.{Pair}
+use Rattle.pieces.specs.declared.piece.Run.{Run}
+use Rattle.table.specs.declared.buffer.TableBuf.{TableBuf}
 use Rattle.table.specs.declared.view.Table.{Table}
-use Rattle.table.specs.Buffer.{pair_refusal}
+use Rattle.table.specs.Buffer.{EntryIn, LongIn, PairIn, buffer_letters, buffer_rules, buffer_runs, letter_refusal, long_refusal, pair_refusal}
 use Rattle.table.specs.Meaning.{expansions_of, letters_of, longs_of, pairs_of, rules_of}
 use Rattle.table.specs.Numbers.{first_at, second_at, numbers_of, pairs_in}
 use Rattle.pieces.specs.Runs.{counts, expanded, long_letters, nothing, weights_at}
+use Rattle.table.specs.Records.{IsOf, records_refusal}
 use Rattle.table.specs.Refusals.{known_long, last_letter, refusal_of}
 use Rattle.table.specs.Entries.{is_expansion, is_other}
-use Rattle.table.specs.Rules.{contraction, rules_in}
+use Rattle.table.specs.Rules.{contraction, no_rules, rules_in}
 use Rattle.table.specs.Valley.{valley, valley_list, valley_pair, valley_pairs}
 
 -- the pairs at places j and k are of the same two letters
@@ -128,6 +132,26 @@ abbrev pub SameRefusal : Type 0
 SameRefusal =
     (ls ps : List ℕ) (n : ℕ) (p : Pair) → refusal_of ls ps n ≡ None → refusal_of ls (ps ++ numbers_of p) (n + 1) ≡ pair_refusal (rules_in ls ps n) n p
 
+-- A pair, or a longer run, that is added to a table of records meets the refusal that the records with it behind would meet.
+abbrev pub SameRunRefusal : Type 0
+SameRunRefusal =
+    (ls : List LetterEntry) (rs : List Run) (b : TableBuf) (r : Run) → IsOf ls rs b →
+    ((p : Pair) → r.letters.now ≡ p.first ∷ (p.second ∷ []) → records_refusal ls (rs ++ r ∷ []) ≡ pair_refusal (buffer_rules b) (buffer_runs b) p)
+    × ((e : Long) → r.letters.now ≡ long_letters e.run → records_refusal ls (rs ++ r ∷ []) ≡ long_refusal (buffer_rules b) (buffer_runs b) e)
+
+-- Every table of names in UTF-8 that is filled step by step is one of records: a blank one of none, and one to which a letter, a
+-- pair or a longer run has been added of those before and this one.
+pub record FilledByRecords : Type 0 where
+  pub blank : (b : TableBuf) → buffer_rules b ≡ no_rules true → buffer_letters b ≡ 0 → buffer_runs b ≡ 0 → IsOf [] [] b
+  pub letter : (ls : List LetterEntry) (rs : List Run) (b c : TableBuf) (e : LetterEntry) → IsOf ls rs b →
+      letter_refusal (buffer_rules b) (buffer_letters b) e ≡ None → EntryIn b e c → IsOf (ls ++ e ∷ []) rs c
+  pub pair : (ls : List LetterEntry) (rs : List Run) (b c : TableBuf) (r : Run) (p : Pair) → IsOf ls rs b →
+      (r.letters.now ≡ p.first ∷ (p.second ∷ [])) × (r.weights ≡ p.weights) →
+      pair_refusal (buffer_rules b) (buffer_runs b) p ≡ None → PairIn b p c → IsOf ls (rs ++ r ∷ []) c
+  pub long : (ls : List LetterEntry) (rs : List Run) (b c : TableBuf) (r : Run) (e : Long) → IsOf ls rs b →
+      (r.letters.now ≡ long_letters e.run) × (r.weights ≡ e.weights) →
+      long_refusal (buffer_rules b) (buffer_runs b) e ≡ None → LongIn b e c → IsOf ls (rs ++ r ∷ []) c
+
 -- all of these
 pub record Laws : Type 0 where
   pub exactly_tables : ExactlyTables
@@ -142,3 +166,5 @@ pub record Laws : Type 0 where
   pub runs_fit : RunsFit
   pub valley_says : ValleySays
   pub same_refusal : SameRefusal
+  pub same_run_refusal : SameRunRefusal
+  pub filled_by_records : FilledByRecords

@@ -94,6 +94,11 @@ records_refusal ls rs = option_or (runs_refusal rs) (option_or (letters_refusal 
 abbrev pub Says : (letters : List LetterEntry) → (runs : List Run) → TableBuf → Type 0
 Says ls rs b = (buffer_rules b ≡ records_rules ls rs) × (buffer_letters b ≡ many_weighing ls) × (buffer_runs b ≡ length rs)
 
+-- the table says what these records say, and they are not refused
+pub record IsOf (ls : List LetterEntry) (rs : List Run) (b : TableBuf) : Type 0 where
+  pub taken : records_refusal ls rs ≡ None
+  pub said : Says ls rs b
+
 -- one run more is free to be written: there is room for it, its letters are known, and they are not one yet
 pub record IsFree (t : Rules) (many : ℕ) (run : List ℕ) : Type 0 where
   pub room : many < 200

@@ -1,14 +1,12 @@
 -- Digits read as a number.
-use Rattle.std.proofs.Common.{◌≡◌, ℕ, ◌^◌, ◌<◌, ◌≤◌, ◌⊎◌, inl, inr, Bool, true, false, cond, ◌&&◌, ltb, leb, eqb, List, [], ◌∷◌, length, is_ok, Some, None, Option, Ok, Err, Result, MatchResult, Decides, sym, refl, ap, ◌∙◌, rules, arith}
+use Rattle.std.proofs.Common.{◌≡◌, ℕ, zero, suc, ◌+◌, ◌*◌, ◌^◌, ◌<◌, ◌≤◌, ◌⊎◌, inl, inr, Bool, true, false, cond, ◌&&◌, ltb, leb, eqb, List, [], ◌∷◌, get_or, length, take, Some, None, Option, Decides, sym, refl, ap, ◌∙◌, rules, arith}
 use Rattle.std.proofs.lemmas.Bool.{lt-ltb, ltb-true, le-leb, leb-true, and_parts, true≢false}
 use Rattle.std.proofs.lemmas.Bool.Decides.{nat_tests, Decides-like, Decides-and, Decides-ltb}
-use Rattle.std.proofs.lemmas.Int.Digits.{digits_value-lt}
-use Rattle.std.proofs.lemmas.Str.Ascii.{IsAscii-nil, IsAscii-cons}
-use Rattle.std.proofs.lemmas.Str.Parse.{IsNumeralModel, numerals_by_fold}
+use Rattle.std.proofs.lemmas.Int.Digits.{digits_value-lt, digits_value_more}
+use Rattle.std.proofs.lemmas.Str.Parse.{IsNumeralModel, digits_value-take-le, numerals_by_fold}
 use Rattle.std.specs.Char.{digit_value, is_digit}
 use Rattle.std.specs.List.{list_all}
 use Rattle.std.specs.Option.{SomeIff}
-use Rattle.std.specs.Str.{IsAscii}
 use Rattle.std.specs.Str.Parse.{AllDigits, IsNumeral, digits_value}
 use Rattle.texts.specs.Numerals.{all_digits, value, number_of, hex_of, one_letter}
 use Rattle.utf8.specs.Reading.{first_letter}
@@ -28,23 +26,24 @@ chosen : (t : Bool) (P : Type 0) → Decides t P → (v u : ℕ) → (P → v �
 chosen true P d v u e = (d.0 refl, sym (e (d.0 refl)))
 chosen false P d v u e = λ p. true≢false (sym (d.1 p))
 
+-- each byte of a numeral is a digit, and what its front writes is no more than what it writes
+module _ (base : ℕ) where
+  pub digit_of : (w : List ℕ) (i : ℕ) → AllDigits base w → i < length w → digit_value (get_or w i 0) < base
+  digit_of [] i d l = absurd (omega arith)
+  digit_of (x ∷ w) zero d l = d.0
+  digit_of (x ∷ w) (suc i) d l = digit_of w i d.1 (omega arith)
+
+  pub front_below : (w : List ℕ) (i n m : ℕ) → 1 ≤ base → i < length w → n ≡ digits_value base (take i w) → m ≡ n * base + digit_value (get_or w i 0) → m ≤ digits_value base w
+  front_below w i n m b l e f =
+      let g = f ∙ (ap (λ v. v * base + digit_value (get_or w i 0)) e ∙ sym (digits_value_more base w i l)) in
+      let t = digits_value-take-le base w (i + 1) b in
+      rw g t
+
 -- the test that the code makes of each byte
 module _ (base : ℕ) where
   pub digits_pass : (w : List ℕ) → AllDigits base w → list_all (λ x. is_digit x base) w ≡ true
   digits_pass [] d = refl
   digits_pass (x ∷ w) d = rw (lt-ltb (digit_value x) base d.0) (digits_pass w d.1)
-
-  pub digits_ascii : base ≤ 36 → (w : List ℕ) → list_all (λ x. is_digit x base) w ≡ true → IsAscii w
-  digits_ascii l [] h = IsAscii-nil
-  digits_ascii l (x ∷ w) h = go (is_digit x base) refl h (digits_ascii l w)
-    where
-      go : (b : Bool) → is_digit x base ≡ b → (b && list_all (λ y. is_digit y base) w) ≡ true → (list_all (λ y. is_digit y base) w ≡ true → IsAscii w) → IsAscii (x ∷ w)
-      go true e k ih = IsAscii-cons x w (grind (arith, nat_tests)) (ih k)
-      go false e k ih = absurd (true≢false (sym k))
-
-pub no_failure : {T E : Type 0} (r : Result T E) (P : T → Type 0) (U : Type 0) (V : E → Type 0) → MatchResult r P (λ e. ¬ U × V e) → is_ok r ≡ false → U → ⊥
-no_failure (Ok x) P U V h e u = true≢false e
-no_failure (Err x) P U V h e u = h.0 u
 
 -- decimal digits
 own : IsNumeralModel (λ ds. all_digits ds ≡ true) (value 0)

@@ -19,5 +19,5 @@ pub use fault::Fault;
 pub use laws::text_laws;
 pub use line::{Command, Entry, Line};
 pub use numeral::whole_number;
-pub use part::{Parts, without_return};
-pub use written::{Numbers, Told};
+pub use part::{Cut, Parts, first_part, without_return};
+pub use written::{Letter, Numbers, Told};

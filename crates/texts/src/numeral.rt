@@ -4,7 +4,6 @@ ghost use Rattle.std.specs.Option.{SomeIff};
 ghost use Rattle.std.specs.Str.Parse.{IsNumeral, digits_value};
 ghost use Rattle.texts.specs.Numerals.{hex_of, letter_of, number_of, one_letter};
 
-use std::str;
 use utf8::first_letter;
 
 // A number that a `usize` holds, of decimal digits.
@@ -51,14 +50,22 @@ fn hexadecimal(digits: &[u8]) -> Option<u32>
     u32::try_from(number_in_base(digits, 16)?).ok()
 }
 
-// A number that a `usize` holds, of digits alone: `from_str_radix` would take a sign too.
+// A number that a `usize` holds, of digits alone, read in one go: `from_str_radix` would take a sign too, and a text that has
+// been looked through twice before.
 fn number_in_base(word: &[u8], base: u32) -> Option<usize>
     requires least { 2 ≤ base }
     requires most { base ≤ 36 }
     ensures { SomeIff result (IsNumeral base word.now × (digits_value base word.now < 2 ^ 64)) (digits_value base word.now) }
 {
-    if !word.iter().all(|byte| char::from(*byte).is_digit(base)) {
+    if word.is_empty() {
         return None;
     }
-    usize::from_str_radix(str::from_utf8(word).ok()?, base).ok()
+    let mut number = 0usize;
+    for byte in word {
+        let digit = char::from(*byte).to_digit(base)?;
+        number = number
+            .checked_mul(base as usize)?
+            .checked_add(digit as usize)?;
+    }
+    Some(number)
 }

@@ -8,7 +8,7 @@ use std::marker::Model;
 
 // A text cut at its first mark. `Parts` goes on from there.
 #[derive(Clone, Copy)]
-pub(crate) struct Cut<'a> {
+pub struct Cut<'a> {
     // Up to the first mark.
     pub part: &'a [u8],
     // What stands behind that mark, where there is one.
@@ -16,7 +16,7 @@ pub(crate) struct Cut<'a> {
 }
 
 // The first part of a text and the rest of it.
-pub(crate) fn first_part<'a>(text: &'a [u8], mark: u8) -> Cut<'a>
+pub fn first_part<'a>(text: &'a [u8], mark: u8) -> Cut<'a>
     ensures part { result.part.now ≡ front mark text.now }
     ensures rest { option_map (λ x. x.now) result.rest ≡ behind mark text.now }
 {

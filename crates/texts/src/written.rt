@@ -10,7 +10,7 @@ use table::{Triples, Weights};
 
 // A letter, as itself where it can be seen and else as `U+00FC`.
 #[derive(Clone, Copy)]
-struct Letter(u32);
+pub struct Letter(pub u32);
 
 impl fmt::Display for Letter {
     ghost output = { λ x. Some (letter_text x.0) };

@@ -7,7 +7,7 @@ ghost use Rattle.table.specs.Buffer.{buffer_longs, buffer_pairs, buffer_rules};
 ghost use Rattle.table.specs.Meaning.{longs_of, pairs_of, rules_of};
 ghost use Rattle.pieces.specs.Runs.{long_letters};
 ghost use Rattle.table.specs.Rules.{in_utf8};
-ghost use Rattle.table.specs.Valley.{valley};
+ghost use Rattle.table.specs.Valley.{valley, valley_pairs};
 ghost use Rattle.texts.specs.Lines.{meaning_of};
 ghost use Rattle.texts.specs.Parts.{without_return};
 
@@ -40,7 +40,7 @@ impl Session {
         ensures rules { rules_of result ≡ held_rules self.now.book }
         ensures pairs { pairs_of result ≡ buffer_pairs self.now.book.table }
         ensures longs { longs_of result ≡ buffer_longs self.now.book.table }
-        ensures valleys { self.now.own ≡ false → rules_of result ≡ in_utf8 valley }
+        ensures valleys { self.now.own ≡ false → (rules_of result ≡ in_utf8 valley) × (pairs_of result ≡ valley_pairs) }
     {
         self.book.table()
     }

@@ -18,8 +18,8 @@ impl<'a> Pairs<'a> {
             numbers,
             count: 0,
             begins: [false; 256],
-            heads: [None; 256],
-            links: [None; 200],
+            heads: [0; 256],
+            links: [0; 200],
         }
     }
 
@@ -52,7 +52,7 @@ impl<'a> Pairs<'a> {
         let bucket = bucket(first, second) as usize;
         self.begins[(first % 256) as usize] = true;
         self.links[self.count] = self.heads[bucket];
-        self.heads[bucket] = Some(self.count as u8);
         self.count += 1;
+        self.heads[bucket] = self.count as u8;
     }
 }

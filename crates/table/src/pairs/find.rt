@@ -2,7 +2,7 @@
 ghost use Rattle.std.specs.Prelude.{◌≡◌, ◌+◌, ◌*◌, ◌%◌, ◌<◌, IfSome};
 ghost use Rattle.std.specs.List.{slice_get};
 ghost use Rattle.std.specs.Option.{option_map};
-ghost use Rattle.table.specs.Chain.{begun, bucket, marks_of};
+ghost use Rattle.table.specs.Chain.{begun, bucket, counted_place, marks_of};
 ghost use Rattle.table.specs.Numbers.{is_pair, pairs_in, place_in};
 ghost use Rattle.pieces.specs.Runs.{weights_at};
 
@@ -64,13 +64,12 @@ impl<'a> Pairs<'a> {
         if !self.may_begin(first) {
             return None;
         }
-        let mut at = self.heads[bucket(first, second) as usize];
+        let mut at = place_of(self.heads[bucket(first, second) as usize]);
         while let Some(place) = at {
-            let k = place as usize;
-            if self.is_at(k, first, second) {
-                return Some(k);
+            if self.is_at(place, first, second) {
+                return Some(place);
             }
-            at = self.links[k];
+            at = place_of(self.links[place]);
         }
         None
     }
@@ -82,6 +81,14 @@ impl<'a> Pairs<'a> {
     {
         self.numbers[5 * place] as u32 == first && self.numbers[5 * place + 1] as u32 == second
     }
+}
+
+// The place that a byte of an index counts from 1.
+#[tactic(auto, unfolding(crate::specs::Chain::counted_place))]
+fn place_of(counted: u8) -> Option<usize>
+    ensures { result ≡ counted_place counted }
+{
+    (counted as usize).checked_sub(1)
 }
 
 // The bucket of two letters.

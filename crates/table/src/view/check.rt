@@ -12,7 +12,9 @@ use crate::view::Table;
 impl<'a> Table<'a> {
     // Lent numbers as a table of bytes: three weights for each of the 256 letters, and five numbers for each of `how_many`
     // pairs, two letters and their three weights. It has no longer runs, and no letter expands. The numbers are taken one by one,
-    // and not as a struct, as `make_key` hands them on from callers who know tables by numbers alone.
+    // and not as a struct, as `make_key` hands them on from callers who know tables by numbers alone. It is
+    // written out where it is called: handed back, a table is copied twice, which takes longer than checking one pair.
+    #[inline(always)]
     pub fn check(letters: &'a [u16], pairs: &'a [u16], how_many: u64) -> Result<Table<'a>, Refusal>
         ensures { Checked letters.now pairs.now how_many result }
     {

@@ -1,4 +1,5 @@
 use Rattle.table.proofs.Lawful.{exactly_tables, expansions_listed, first_foreign, first_twice, held_are_tables, just_pairs, letters_listed, letters_weigh, runs_fit, runs_listed, same_refusal, valley_says}
+use Rattle.table.proofs.Recorded.{filled_by_records, same_run_refusal}
 use Rattle.table.proofs.laws.table_laws.Goals as goal
 
 pub returns-clause-laws : goal.returns-clause-laws
@@ -15,4 +16,6 @@ returns-clause-laws c = record {
   runs_fit = runs_fit;
   valley_says = valley_says;
   same_refusal = same_refusal;
+  same_run_refusal = same_run_refusal;
+  filled_by_records = filled_by_records;
 }

@@ -11,8 +11,9 @@ invariant_of-self c =
     let ps = p.numbers.now in
     let e = c.requires.bucket in
     let b = c.bucket-bucket.ensures in
+    let s : length p.heads ≡ 256 = search rules in
     let l : length p.links ≡ 200 = search rules in
-    let m = linked_more ps p.count p.heads p.links (omega arith) (record { begun = p.begun; linked = p.linked }) in
+    let m = linked_more ps p.count p.heads p.links s (omega arith) (record { begun = p.begun; linked = p.linked }) in
     let n = rw (e, sym b) at m in
     let f = c.requires.first in
     let k = ap (λ ms. set ms (first_at ps p.count % 256) true) p.marked ∙ marks_more ps p.count in

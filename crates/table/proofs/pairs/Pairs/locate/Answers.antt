@@ -1,5 +1,6 @@
-use Rattle.std.proofs.Common.{refl, sym, ◌∙◌, arith}
-use Rattle.table.specs.Chain.{bucket}
+use Rattle.std.proofs.Common.{◌≡◌, None, length, refl, sym, ◌∙◌, arith, rules}
+use Rattle.std.proofs.lemmas.List.{get_or-map}
+use Rattle.table.specs.Chain.{bucket, counted_place}
 use Rattle.table.proofs.Chaining.{below, bucket_below, follows_head, follows_link, found, head_at, link_lower, none_begun, nowhere}
 use Rattle.table.proofs.pairs.Pairs.locate.Goals as goal
 
@@ -13,8 +14,12 @@ loop-at-init c =
     let p = c.args.self.now in
     let e = p.begun in
     let b = c.bucket.ensures in
-    let h = head_at p.numbers.now p.count (bucket c.args.first c.args.second) (bucket_below c.args.first c.args.second) in
-    rw (e, b, h) (follows_head p.numbers.now (bucket c.args.first c.args.second) p.count c.args.first c.args.second refl)
+    let t = bucket_below c.args.first c.args.second in
+    let h = head_at p.numbers.now p.count (bucket c.args.first c.args.second) t in
+    let s : length p.heads ≡ 256 = search rules in
+    let m = get_or-map counted_place p.heads (bucket c.args.first c.args.second) 0 None (omega arith) in
+    let o = c.place_of-at.ensures in
+    rw (o, b, sym m, e, h) (follows_head p.numbers.now (bucket c.args.first c.args.second) p.count c.args.first c.args.second refl)
 
 pub is_at-requires : goal.is_at-requires
 is_at-requires c =
@@ -33,8 +38,8 @@ returns-then-is_at c =
       bound = below p.numbers.now (bucket c.args.first c.args.second) p.count c.args.first c.args.second c.in-Some.place (rw e at i);
     }
 
-pub bounds-self-k : goal.bounds-self-k
-bounds-self-k c =
+pub bounds-self-place : goal.bounds-self-place
+bounds-self-place c =
     let p = c.args.self.now in
     let e = c.in-Some.is in
     let i = c.loop-at.invariant in
@@ -48,7 +53,7 @@ loop-at-smaller c =
     let e = c.in-Some.is in
     let i = c.loop-at.invariant in
     let b = below p.numbers.now (bucket c.args.first c.args.second) p.count c.args.first c.args.second c.in-Some.place (rw e at i) in
-    let l = p.linked c.in-Some.place b in
+    let l = c.place_of-at-in-Some.ensures ∙ p.linked c.in-Some.place b in
     rw (e, l) (link_lower p.numbers.now (bucket c.args.first c.args.second) p.count c.args.first c.args.second c.in-Some.place (rw e at i))
 
 pub loop-at-preserved : goal.loop-at-preserved
@@ -57,7 +62,7 @@ loop-at-preserved c =
     let e = c.in-Some.is in
     let i = c.loop-at.invariant in
     let b = below p.numbers.now (bucket c.args.first c.args.second) p.count c.args.first c.args.second c.in-Some.place (rw e at i) in
-    let l = p.linked c.in-Some.place b in
+    let l = c.place_of-at-in-Some.ensures ∙ p.linked c.in-Some.place b in
     rw l (follows_link p.numbers.now (bucket c.args.first c.args.second) p.count c.args.first c.args.second c.in-Some.place (rw e at i) refl (sym c.is_at.ensures ∙ c.if-is_at.false))
 
 pub returns : goal.returns

@@ -12,6 +12,6 @@ invariant_of-result c =
       few = omega arith;
       apart = none_yet (repeated ps);
       marked = sym (no_marks ps);
-      begun = sym (no_heads ps);
+      begun = no_heads ps;
       linked = λ k l. absurd (omega arith);
     }
