@@ -2,7 +2,7 @@
 ghost use Rattle.std.specs.Prelude.{◌≡◌, false, IfOk, slice_set, true};
 ghost use Rattle.catalogue.specs.Filling.{held_rules};
 ghost use Rattle.catalogue.specs.Naming.{names_left};
-ghost use Rattle.nullahbowl.specs.Sessions.{Begun, Fresh, IsListed, Joined, JoinedLong, Prepared, Settled, Taken, Weighed, all_named, found_names, session_letters};
+ghost use Rattle.nullahbowl.specs.Sessions.{Begun, Fresh, IsListed, Joined, JoinedLong, KeyAnswered, Prepared, Settled, Taken, Weighed, all_named, found_names, session_letters};
 ghost use Rattle.table.specs.Buffer.{buffer_longs, buffer_pairs, buffer_rules};
 ghost use Rattle.table.specs.Meaning.{longs_of, pairs_of, rules_of};
 ghost use Rattle.pieces.specs.Runs.{long_letters};
@@ -99,7 +99,7 @@ impl Session {
                 self.prepare(heap, ask)?;
                 Ok(Answer::Find(ask))
             }
-            Line::Says(Command::Key(name)) => Ok(Answer::Key(self.table().sort_key(heap, name)?)),
+            Line::Says(Command::Key(name)) => self.key(heap, name),
             Line::Says(Command::Name(name)) => {
                 self.book.push(name)?;
                 Ok(Answer::Nothing)
@@ -107,7 +107,17 @@ impl Session {
         }
     }
 
+    // The key of a name under the table by now. This and what enters a line of a table stand apart: written out in `take`, they
+    // would have the room of a table or two cleared for each line, whatever it says.
+    #[inline(never)]
+    fn key<'l>(&self, heap: Global, name: &[u8]) -> Result<Answer<'l>, TakeError>
+        ensures { KeyAnswered (held_rules self.now.book) name.now result }
+    {
+        Ok(Answer::Key(self.table().sort_key(heap, name)?))
+    }
+
     // One letter more. What is turned away changes nothing.
+    #[inline(never)]
     fn weigh(&mut self, heap: Global, entry: LetterEntry) -> Result<(), TakeError>
         ensures { Weighed self.old entry result self.new }
     {
@@ -123,6 +133,7 @@ impl Session {
     }
 
     // One pair more. What is turned away changes nothing.
+    #[inline(never)]
     fn join(&mut self, heap: Global, pair: Pair) -> Result<(), TakeError>
         ensures { Joined self.old pair result self.new }
     {
@@ -139,6 +150,7 @@ impl Session {
     }
 
     // One run of three or four letters more. What is turned away changes nothing.
+    #[inline(never)]
     fn join_long(&mut self, heap: Global, long: Long) -> Result<(), TakeError>
         ensures { JoinedLong self.old long result self.new }
     {
@@ -164,6 +176,7 @@ impl Session {
     }
 
     // The names are in order, if what is asked may be asked.
+    #[inline(never)]
     fn prepare(&mut self, heap: Global, ask: &[u8]) -> Result<(), TakeError>
         ensures { Prepared self.old ask.now result self.new }
     {
