@@ -11,7 +11,7 @@ use anyhow::anyhow;
 use std::alloc::Global;
 use std::io;
 use std::io::Write;
-use texts::{Fault, Numbers, Parts};
+use texts::{Fault, Numbers, Parts, without_return};
 
 // How much was turned away, and how many questions came.
 #[derive(Clone, Copy, Default)]
@@ -45,15 +45,21 @@ pub fn read_text<W: Write>(
 {
     let mut tally = Tally::default();
     for (place, line) in Parts::new(without_feed(text), b'\n').enumerate() {
-        tally = tally.and(read_line(rt, session, name, line, place, options, out)?);
-        tell_progress(rt, name, place + 1, options)?;
+        // A line in which nothing stands asks for nothing and changes nothing.
+        if !without_return(line).is_empty() {
+            tally = tally.and(read_line(rt, session, name, line, place, options, out)?);
+        }
+        if options.progress {
+            tell_progress(rt, name, place + 1)?;
+        }
     }
     Ok(tally)
 }
 
-// Says how far reading has come, where that is wanted: after every 100,000 lines.
-fn tell_progress(rt: &HostRuntime, name: &str, count: usize, options: Options) -> io::Result<()> {
-    if options.progress && count % 100_000 == 0 {
+// Says how far reading has come: after every 100,000 lines.
+#[inline(never)]
+fn tell_progress(rt: &HostRuntime, name: &str, count: usize) -> io::Result<()> {
+    if count % 100_000 == 0 {
         eprintln!(rt; "{name}: {count} lines")?;
     }
     Ok(())
@@ -66,7 +72,9 @@ fn without_feed<'t>(text: &'t [u8]) -> &'t [u8]
     text.strip_suffix(b"\n").unwrap_or(text)
 }
 
-// Takes the line at `place`, writes what it asks for, or says why it is turned away.
+// Takes the line at `place`, writes what it asks for, or says why it is turned away. This and how far reading has come stand
+// apart: written out in the loop over lines, they would have the room of their answers cleared for each line.
+#[inline(never)]
 fn read_line<W: Write>(
     rt: &HostRuntime,
     session: &mut Session,

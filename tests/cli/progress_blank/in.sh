@@ -1,0 +1,2 @@
+yes a | head -n 99999
+printf '\nb\n'
