@@ -69,18 +69,19 @@ abbrev pub Underway : Options → (s : Session) → (all : List (List ℕ)) → 
 Underway o s all m rest k f q w =
     (e p : ℕ) (v : List ℕ) (t : Session) → LinesTaken o m rest k e p v t → LinesTaken o s all 0 (f + e) (q + p) (w ++ v) t
 
--- and as many have been read as the loop has counted, each of which adds one at most to either sum
+-- how the loop stands behind y lines of a text of t bytes, with a written before them and b by now: each has added one at most to
+-- either sum
 abbrev pub Standing : Options → (s : Session) → (all : List (List ℕ)) → (m : Session) → (rest : List (List ℕ)) → (k : ℕ) → Tally → (y t : ℕ) → (a b : Option (List ℕ)) → Type 0
 Standing o s all m rest k u y t a b =
     (u.faults ≤ y) × (u.asked ≤ y) × (y + length rest ≤ t + 1) × (k ≡ y)
     × ((w : List ℕ) × Appends a b w × Underway o s all m rest k u.faults u.asked w)
 
--- what one line changes: the sums, what is written, and the session
+-- what one line changes: the sums from u to v, what is written from a to b, and the session
 abbrev pub Step : Options → Session → (l : List ℕ) → (j : ℕ) → (u v : Tally) → (a b : Option (List ℕ)) → Session → Type 0
 Step o m l j u v a b n =
     (d p : ℕ) × (w : List ℕ) × LineTaken o m l j d p w n × Appends a b w × (v.faults ≡ u.faults + d) × (v.asked ≡ u.asked + p)
 
--- nothing, where nothing stands in it
+-- a line in which nothing stands changes nothing
 pub blank_step : (o : Options) (m : Session) (l : List ℕ) (j : ℕ) (u : Tally) (a : Option (List ℕ)) → length (without_return l) ≡ 0
     → Step o m l j u u a a m
 blank_step o m l j u a e = (0, 0, [], nothing_said o m l j e, unwritten a, sym (add-zero u.faults), sym (add-zero u.asked))
@@ -88,7 +89,7 @@ blank_step o m l j u a e = (0, 0, [], nothing_said o m l j e, unwritten a, sym (
 sum : (r f d y : ℕ) → r ≡ min (f + d) (2 ^ 64 - 1) → f ≤ y → d ≤ 1 → y + 1 < 2 ^ 64 → r ≡ f + d
 sum r f d y e h k m = omega arith
 
--- else what comes of it, since the sums stay small
+-- any other adds what its reading answers, since the sums stay small
 pub read_step : (o : Options) (m : Session) (l : List ℕ) (j : ℕ) (u v more : Tally) (y : ℕ) (a b : Option (List ℕ)) (n : Session) (w : List ℕ)
     → LineTaken o m l j more.faults more.asked w n → Appends a b w
     → (v.faults ≡ min (u.faults + more.faults) (2 ^ 64 - 1)) × (v.asked ≡ min (u.asked + more.asked) (2 ^ 64 - 1))

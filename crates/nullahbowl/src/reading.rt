@@ -45,21 +45,18 @@ pub fn read_text<W: Write>(
 {
     let mut tally = Tally::default();
     for (place, line) in Parts::new(without_feed(text), b'\n').enumerate() {
-        // A line in which nothing stands asks for nothing and changes nothing.
-        if !without_return(line).is_empty() {
+        // A line in which nothing stands asks for nothing and changes nothing, so that it is spared the call.
+        if options.progress || !without_return(line).is_empty() {
             tally = tally.and(read_line(rt, session, name, line, place, options, out)?);
-        }
-        if options.progress {
-            tell_progress(rt, name, place + 1)?;
+            tell_progress(rt, name, place + 1, options)?;
         }
     }
     Ok(tally)
 }
 
-// Says how far reading has come: after every 100,000 lines.
-#[inline(never)]
-fn tell_progress(rt: &HostRuntime, name: &str, count: usize) -> io::Result<()> {
-    if count % 100_000 == 0 {
+// Says how far reading has come, where that is wanted: after every 100,000 lines.
+fn tell_progress(rt: &HostRuntime, name: &str, count: usize, options: Options) -> io::Result<()> {
+    if options.progress && count % 100_000 == 0 {
         eprintln!(rt; "{name}: {count} lines")?;
     }
     Ok(())
@@ -72,8 +69,8 @@ fn without_feed<'t>(text: &'t [u8]) -> &'t [u8]
     text.strip_suffix(b"\n").unwrap_or(text)
 }
 
-// Takes the line at `place`, writes what it asks for, or says why it is turned away. This and how far reading has come stand
-// apart: written out in the loop over lines, they would have the room of their answers cleared for each line.
+// Takes the line at `place`, writes what it asks for, or says why it is turned away. It stands apart: written out in the loop
+// over lines, it would have the room of its answers and refusals cleared for each of them, also where nothing stands.
 #[inline(never)]
 fn read_line<W: Write>(
     rt: &HostRuntime,

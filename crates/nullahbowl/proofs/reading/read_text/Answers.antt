@@ -2,8 +2,7 @@ use Rattle.std.proofs.Common.{◌≡◌, ◌+◌, ◌^◌, ◌<◌, [], length, 
 use Rattle.std.proofs.lemmas.List.{length_push}
 use Rattle.nullahbowl.specs.Answers.{lines_in}
 use Rattle.texts.specs.Parts.{parts}
-use Rattle.nullahbowl.proofs.Progress.{Step, all_taken, begun, blank_step, read_step, stepped, unwritten}
-use Rattle.nullahbowl.proofs.reading.read_text.Goals.{then-not-is_empty+in_ok-read_line, else-not-is_empty}
+use Rattle.nullahbowl.proofs.Progress.{all_taken, begun, blank_step, read_step, stepped, unwritten}
 use Rattle.nullahbowl.proofs.reading.read_text.Goals as goal
 
 pub loop-place-init : goal.loop-place-init
@@ -19,44 +18,22 @@ loop-place-init g c =
 pub loop-place-preserved : goal.loop-place-preserved
 loop-place-preserved g c =
     let m = c.loop-place in
-    let n = c.if-not-is_empty in
-    let i = m.invariant in
     let step = c.in-Some.ensures.steps in
-    let o = c.args.options in
-    let line = c.in-Some.line.now in
-    let place = c.in-Some.place in
-    let room : length m.yielded + 1 < 2 ^ 64 = omega (arith, step.1, step.3, i.3) in
-    let one : Step o m.session line place m.tally n.tally (g.W.Write.contents m.out) (g.W.Write.contents n.out) n.session =
-    elim n.branch [
-      | then-not-is_empty+in_ok-read_line w ↦
-          let taken = w.in_ok-read_line.ensures in
-          rw (w.session-is, w.out-is, w.tally-is)
-          (read_step o m.session line place m.tally _ w.in_ok-read_line.field-0 _ _ _ _ taken.0 taken.1 taken.2 w.and-tally.ensures i.0 i.1 room)
-      | else-not-is_empty w ↦ rw (w.session-is, w.out-is, w.tally-is) (blank_step o m.session line place m.tally _ (search rules))
-    ] in
-    stepped _ _ _ _ _ _ _ _ m.tally _ _ _ (g.W.Write.contents m.out) _ _ n.tally _ _ n.session i one step.0 step.1 step.2
-    (length_push m.yielded (place, c.in-Some.line))
+    let blank = blank_step c.args.options m.session c.in-Some.line.now c.in-Some.place m.tally (g.W.Write.contents m.out) (search rules) in
+    stepped _ _ _ _ _ _ _ _ m.tally _ _ _ (g.W.Write.contents m.out) _ _ m.tally _ _ m.session m.invariant blank step.0 step.1 step.2
+    (length_push m.yielded (c.in-Some.place, c.in-Some.line))
 
-pub loop-place-preserved-in_ok-tell_progress : goal.loop-place-preserved-in_ok-tell_progress
-loop-place-preserved-in_ok-tell_progress g c =
+pub loop-place-preserved-in-loop-place : goal.loop-place-preserved-in-loop-place
+loop-place-preserved-in-loop-place g c =
     let m = c.loop-place in
-    let n = c.if-not-is_empty in
     let i = m.invariant in
     let step = c.in-Some.ensures.steps in
-    let o = c.args.options in
-    let line = c.in-Some.line.now in
-    let place = c.in-Some.place in
+    let one = c.in_ok-read_line.ensures in
     let room : length m.yielded + 1 < 2 ^ 64 = omega (arith, step.1, step.3, i.3) in
-    let one : Step o m.session line place m.tally n.tally (g.W.Write.contents m.out) (g.W.Write.contents n.out) n.session =
-    elim n.branch [
-      | then-not-is_empty+in_ok-read_line w ↦
-          let taken = w.in_ok-read_line.ensures in
-          rw (w.session-is, w.out-is, w.tally-is)
-          (read_step o m.session line place m.tally _ w.in_ok-read_line.field-0 _ _ _ _ taken.0 taken.1 taken.2 w.and-tally.ensures i.0 i.1 room)
-      | else-not-is_empty w ↦ rw (w.session-is, w.out-is, w.tally-is) (blank_step o m.session line place m.tally _ (search rules))
-    ] in
-    stepped _ _ _ _ _ _ _ _ m.tally _ _ _ (g.W.Write.contents m.out) _ _ n.tally _ _ n.session i one step.0 step.1 step.2
-    (length_push m.yielded (place, c.in-Some.line))
+    let read = read_step c.args.options m.session c.in-Some.line.now c.in-Some.place m.tally c.and-tally.result c.in_ok-read_line.field-0 (length m.yielded)
+    (g.W.Write.contents m.out) (g.W.Write.contents c.read_line.new.out) c.read_line.new.session one.0 one.1 one.2 c.and-tally.ensures i.0 i.1 room in
+    stepped _ _ _ _ _ _ _ _ m.tally _ _ _ (g.W.Write.contents m.out) _ _ _ _ _ _ i read step.0 step.1 step.2
+    (length_push m.yielded (c.in-Some.place, c.in-Some.line))
 
 pub returns : goal.returns
 returns g c =
